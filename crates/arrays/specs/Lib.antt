@@ -1,0 +1,5 @@
+pub mod Places
+pub mod Masks
+pub mod Rules
+pub mod Ranges
+pub mod laws

@@ -1,0 +1,4 @@
+pub mod Places
+pub mod Masks
+pub mod Rules
+pub mod Ranges

@@ -1,0 +1,106 @@
+-- The laws of lists given place by place, of lists that a loop fills from the front, one place a turn, and of tests of every place.
+-- Assumes nothing.
+use mathlib.Core.Path.{_≡_, refl, sym, ap, _∙_}
+use mathlib.Core.Bool.{Bool, true, _&&_}
+use mathlib.Core.Logic.{_⊎_, ⊎-elim}
+use mathlib.Core.List.{List, [], _∷_, _++_}
+use Prim.Native.Nat.{ℕ, zero, suc, _+_, _≤_, _<_}
+use native.Mathlib.Nat.{le-refl, eq-or-lt-of-le}
+use native.Mathlib.Numerals.{add-one}
+use native.Mathlib.Omega.{arith}
+use lib.ListN.{length, getD, set, length-set, length-append, List·getD-append}
+use lib.Seq.{getD-set-same, getD-set-other, getD-at, ext-getD}
+use Rattle.arrays.specs.Places.{places, allOf}
+
+-- an index below n + 1 is n or below n
+pub last-or-below : {k n : ℕ} → k < suc n → (k ≡ n) ⊎ (k < n)
+last-or-below {k} {n} h = eq-or-lt-of-le (omega arith)
+
+module _ {A : Type 0} where
+  -- a with f 0, .., f (i - 1) put at its first i places
+  unfoldable pub filled : ℕ → (ℕ → A) → List A → List A
+  filled zero f a = a
+  filled (suc i) f a = set (filled i f a) i (f i)
+
+  pub length-places : (n : ℕ) (f : ℕ → A) → length (places n f) ≡ n
+  unfolding places
+  length-places zero f = refl
+  length-places (suc n) f = length-append (places n f) (f n ∷ []) ∙ omega (arith, length-places n f)
+
+  pub getD-places : (n : ℕ) (f : ℕ → A) (k : ℕ) (d : A) → k < n → getD (places n f) k d ≡ f k
+  unfolding places
+  getD-places zero f k d h = absurd (omega arith)
+  getD-places (suc n) f k d h =
+      ⊎-elim
+      (λ e. getD-at (places n f) (f n) [] d k (length-places n f ∙ sym e) ∙ ap f (sym e))
+      (λ l. List·getD-append (places n f) (f n ∷ []) d k (omega (arith, length-places n f)) ∙ getD-places n f k d l)
+      (last-or-below h)
+
+  pub length-filled : (i : ℕ) (f : ℕ → A) (a : List A) → length (filled i f a) ≡ length a
+  unfolding filled
+  length-filled zero f a = refl
+  length-filled (suc i) f a = length-set (filled i f a) i (f i) ∙ length-filled i f a
+
+  -- the places not yet reached are as they were
+  pub filled-rest : (i : ℕ) (f : ℕ → A) (a : List A) (k : ℕ) (d : A) → i ≤ k → getD (filled i f a) k d ≡ getD a k d
+  unfolding filled
+  filled-rest zero f a k d h = refl
+  filled-rest (suc i) f a k d h = getD-set-other (filled i f a) i k (f i) d (omega arith) ∙ filled-rest i f a k d (omega arith)
+
+  pub filled-done : (i : ℕ) (f : ℕ → A) (a : List A) (k : ℕ) (d : A) → k < i → i ≤ length a → getD (filled i f a) k d ≡ f k
+  unfolding filled
+  filled-done zero f a k d h l = absurd (omega arith)
+  filled-done (suc i) f a k d h l =
+      ⊎-elim
+      (λ e. rw e (getD-set-same (filled i f a) i (f i) d (omega (arith, length-filled i f a))))
+      (λ b. getD-set-other (filled i f a) i k (f i) d (omega arith) ∙ filled-done i f a k d b (omega arith))
+      (last-or-below h)
+
+  -- a list as long as what was filled in is that
+  pub filled-all : (n : ℕ) (f : ℕ → A) (a : List A) (d : A) → length a ≡ n → filled n f a ≡ places n f
+  filled-all n f a d e =
+      ext-getD d (filled n f a) (places n f)
+      (length-filled n f a ∙ e ∙ sym (length-places n f))
+      (λ i h.
+      let l : i < n = omega (arith, length-filled n f a) in
+      filled-done n f a i d l (omega arith) ∙ sym (getD-places n f i d l))
+
+  -- one turn of a loop that fills
+  pub filled-more : (i : ℕ) (f : ℕ → A) (a b : List A) (v : A) → b ≡ filled i f a → v ≡ f i → set b i v ≡ filled (i + 1) f a
+  unfolding filled
+  filled-more i f a b v e g = rw (add-one, e, g)
+
+  -- what a loop that fills reads at its own place is what was there
+  pub filled-read : (i : ℕ) (f : ℕ → A) (a b : List A) (d : A) → b ≡ filled i f a → getD b i d ≡ getD a i d
+  filled-read i f a b d e = rw e (filled-rest i f a i d (le-refl i))
+
+  pub filled-none : (f : ℕ → A) (a : List A) → a ≡ filled 0 f a
+  unfolding filled
+  filled-none f a = refl
+
+  -- the end of a loop that fills
+  pub filled-end : (i n : ℕ) (f : ℕ → A) (a b : List A) (d : A) → i ≡ n → b ≡ filled i f a → length a ≡ n → b ≡ places n f
+  filled-end i n f a b d e g l = g ∙ ap (λ (k : ℕ). filled k f a) e ∙ filled-all n f a d l
+
+  -- two lists given alike place by place
+  pub places-alike : (n : ℕ) (f g : ℕ → A) → ((k : ℕ) → k < n → f k ≡ g k) → places n f ≡ places n g
+  unfolding places
+  places-alike zero f g h = refl
+  places-alike (suc n) f g h = rw (places-alike n f g (λ k l. h k (omega arith)), h n (omega arith))
+
+  -- a list is given by its own places
+  pub places-of : (n : ℕ) (a : List A) (d : A) → length a ≡ n → places n (λ k. getD a k d) ≡ a
+  places-of n a d e =
+      ext-getD d (places n (λ k. getD a k d)) a
+      (length-places n (λ k. getD a k d) ∙ sym e)
+      (λ i h. getD-places n (λ k. getD a k d) i d (omega (arith, length-places n (λ k. getD a k d))))
+
+-- ---- a loop that tests every place
+
+pub allOf-none : (p : ℕ → Bool) → true ≡ allOf 0 p
+unfolding allOf
+allOf-none p = refl
+
+pub allOf-more : (i : ℕ) (p : ℕ → Bool) (b v : Bool) → b ≡ allOf i p → v ≡ (b && p i) → v ≡ allOf (i + 1) p
+unfolding allOf
+allOf-more i p b v e f = f ∙ rw (add-one, e)
