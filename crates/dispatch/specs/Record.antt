@@ -1,0 +1,87 @@
+-- DEFINITIONS. How the dispatcher's record, an array for each field, is read as a table with counts and as the rules' state, and how it is written
+-- from them. The rules are those of promise; tasks and phases are numbered from 0.
+-- Assumes nothing.
+use mathlib.Core.Bool.{Bool, cond}
+use mathlib.Core.List.{List}
+use Prim.Native.Nat.{ℕ, _+_, _*_, _/_, _%_}
+use lib.Dec.{ltb, eqb}
+use lib.ListN.{getD, replicate}
+use Rattle.arrays.specs.Masks.{bit, digit}
+use Rattle.arrays.specs.Places.{places}
+use Rattle.dispatch.specs.declared.Dispatcher.{Dispatcher}
+use Rattle.model.specs.Phase.{Choice}
+use Rattle.model.specs.Tasks.{Tasks}
+use Rattle.promise.specs.Rules.{Request, State}
+
+-- an array of 256 has eight places for each task: what it says of phase j of task i
+abbrev pub phaseAt : List ℕ → ℕ → ℕ → ℕ
+phaseAt a i j = cond (ltb j 8) (getD a (8 * i + j) 0) 0
+
+-- the table in a record
+abbrev pub tasksIn : Dispatcher → Tasks
+tasksIn d = record {
+  n = d .tasks;
+  T = λ i. getD (d .spacing) i 0;
+  D = λ i. getD (d .deadline) i 0;
+  m = λ i. getD (d .phases) i 0;
+  c = phaseAt (d .work);
+  q = phaseAt (d .cost);
+}
+
+-- its counts
+abbrev pub countsIn : Dispatcher → Choice
+countsIn d = phaseAt (d .counts)
+
+-- its state: a job is unfinished where the record has 1
+abbrev pub stateIn : Dispatcher → State
+stateIn d = record {
+  busy = λ i. eqb (getD (d .unfinished) i 0) 1;
+  since = λ i. getD (d .since) i 0;
+  left = λ i. getD (d .left) i 0;
+  phase = λ i. getD (d .phase) i 0;
+  piece = λ i. getD (d .piece) i 0;
+  run = d .running;
+  ticks = d .ticks;
+}
+
+-- a release mask with its flag: bit 0 is task 1
+abbrev pub requestOf : ℕ → Bool → Request
+requestOf mask flag = record { mask = bit mask; flag = flag }
+
+-- the way back: the record of a table, counts and a state, place by place
+abbrev pub recordOf : Tasks → Choice → State → Dispatcher
+recordOf S x s = record {
+  tasks = S .n;
+  spacing = places 32 (S .T);
+  deadline = places 32 (S .D);
+  phases = places 32 (S .m);
+  work = places 256 (λ p. S .c (p / 8) (p % 8));
+  cost = places 256 (λ p. S .q (p / 8) (p % 8));
+  counts = places 256 (λ p. x (p / 8) (p % 8));
+  since = places 32 (s .since);
+  unfinished = places 32 (λ i. digit (s .busy i));
+  left = places 32 (s .left);
+  phase = places 32 (s .phase);
+  piece = places 32 (s .piece);
+  running = s .run;
+  ticks = s .ticks;
+}
+
+-- the empty record: it runs nothing and lets nothing in
+abbrev pub emptyRecord : Dispatcher
+emptyRecord = record {
+  tasks = 0;
+  spacing = replicate 32 0;
+  deadline = replicate 32 0;
+  phases = replicate 32 0;
+  work = replicate 256 0;
+  cost = replicate 256 0;
+  counts = replicate 256 0;
+  since = replicate 32 0;
+  unfinished = replicate 32 0;
+  left = replicate 32 0;
+  phase = replicate 32 0;
+  piece = replicate 32 0;
+  running = 0;
+  ticks = 0;
+}

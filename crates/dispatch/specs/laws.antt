@@ -1,0 +1,10 @@
+pub mod ArrayRules
+pub mod ArraySteps
+pub mod Decided
+pub mod Fields
+pub mod Views
+pub mod Ranging
+pub mod InRange
+pub mod Moves
+pub mod Running
+pub mod Follows

@@ -1,0 +1,170 @@
+-- A record is given by its table, counts and state, and these by the record.
+-- Assumes nothing.
+use mathlib.Core.Path.{_≡_, refl, sym, ap, ap₂, _∙_}
+use mathlib.Core.Bool.{Bool, true, false, cond}
+use mathlib.Core.List.{List}
+use Prim.Native.Nat.{ℕ, zero, suc, _+_, _-_, _*_, _/_, _%_, _≤_, _<_}
+use native.Mathlib.Decide.{decLt}
+use native.Mathlib.Omega.{arith}
+use lib.Dec.{leb, ltb, eqb}
+use lib.ListN.{length, getD, List·getD-eq-default}
+use borrow.Author.Tests.{lt-ltb}
+use Rattle.arrays.specs.Masks.{digit}
+use Rattle.arrays.specs.Places.{places}
+use Rattle.arrays.specs.Rules.{pieceTicks}
+use Rattle.arrays.specs.laws.Places.{getD-places, length-places, places-alike, places-of}
+use Rattle.dispatch.specs.Record.{countsIn, phaseAt, recordOf, stateIn, tasksIn}
+use Rattle.dispatch.specs.Start.{InTable}
+use Rattle.dispatch.specs.declared.Dispatcher.{Dispatcher}
+use Rattle.dispatch.specs.laws.ArrayRules.{dueTicks}
+use Rattle.dispatch.specs.laws.Fields.{Long, phase-in, phase-out}
+use Rattle.model.specs.Phase.{Choice, pieceLength}
+use Rattle.model.specs.Tasks.{Tasks}
+use Rattle.promise.specs.Rules.{State, stated}
+use Rattle.promise.specs.laws.Range.{Range}
+
+-- ---- from the record and back
+
+-- a number that is 0 or 1
+digit-of : (v : ℕ) → v ≤ 1 → digit (eqb v 1) ≡ v
+digit-of zero h = refl
+digit-of (suc zero) h = refl
+digit-of (suc (suc v)) h = absurd (omega arith)
+
+-- an array of 256, phase by phase
+phases-of : (a : List ℕ) → length a ≡ 256 → places 256 (λ p. phaseAt a (p / 8) (p % 8)) ≡ a
+phases-of a e =
+    places-alike 256 (λ p. phaseAt a (p / 8) (p % 8)) (λ p. getD a p 0)
+    (λ p l. let q : 8 * (p / 8) + p % 8 ≡ p = omega arith in phase-in a (p / 8) (p % 8) (omega arith) ∙ ap (λ z. getD a z 0) q) ∙
+    places-of 256 a 0 e
+
+flags-of : (a : List ℕ) → length a ≡ 32 → ((i : ℕ) → getD a i 0 ≤ 1) → places 32 (λ i. digit (eqb (getD a i 0) 1)) ≡ a
+flags-of a e h =
+    places-alike 32 (λ i. digit (eqb (getD a i 0) 1)) (λ i. getD a i 0) (λ i l. digit-of (getD a i 0) (h i)) ∙ places-of 32 a 0 e
+
+pub record-of-views : (d : Dispatcher) → Long d → ((i : ℕ) → getD (d .unfinished) i 0 ≤ 1) → recordOf (tasksIn d) (countsIn d) (stateIn d) ≡ d
+record-of-views d long binary =
+    λ k.
+    record {
+      tasks = d .tasks;
+      spacing = places-of 32 (d .spacing) 0 (long .spacing) k;
+      deadline = places-of 32 (d .deadline) 0 (long .deadline) k;
+      phases = places-of 32 (d .phases) 0 (long .phases) k;
+      work = phases-of (d .work) (long .work) k;
+      cost = phases-of (d .cost) (long .cost) k;
+      counts = phases-of (d .counts) (long .counts) k;
+      since = places-of 32 (d .since) 0 (long .since) k;
+      unfinished = flags-of (d .unfinished) (long .unfinished) binary k;
+      left = places-of 32 (d .left) 0 (long .left) k;
+      phase = places-of 32 (d .phase) 0 (long .phase) k;
+      piece = places-of 32 (d .piece) 0 (long .piece) k;
+      running = d .running;
+      ticks = d .ticks;
+    }
+
+-- ---- to the record and back
+
+-- a list given place by place has at every place what it was given, where that is 0 from its end on
+at-place : (n : ℕ) (f : ℕ → ℕ) (i : ℕ) → (n ≤ i → f i ≡ 0) → getD (places n f) i 0 ≡ f i
+at-place n f i h = go (decLt i n)
+  where
+    go : Dec (i < n) → getD (places n f) i 0 ≡ f i
+    go (yes l) = getD-places n f i 0 l
+    go (no l) = List·getD-eq-default (places n f) 0 (omega (arith, length-places n f)) ∙ sym (h (omega arith))
+
+at-phase : (f : ℕ → ℕ → ℕ) (i j : ℕ) → (32 ≤ i → f i j ≡ 0) → (8 ≤ j → f i j ≡ 0) → phaseAt (places 256 (λ p. f (p / 8) (p % 8))) i j ≡ f i j
+at-phase f i j h g = go (decLt j 8)
+  where
+    go : Dec (j < 8) → phaseAt (places 256 (λ p. f (p / 8) (p % 8))) i j ≡ f i j
+    go (yes l) =
+        let q : (8 * i + j) / 8 ≡ i = omega arith in
+        let r : (8 * i + j) % 8 ≡ j = omega arith in
+        let e : f ((8 * i + j) / 8) ((8 * i + j) % 8) ≡ f i j = ap₂ f q r in
+        phase-in (places 256 (λ p. f (p / 8) (p % 8))) i j l ∙
+        at-place 256 (λ p. f (p / 8) (p % 8)) (8 * i + j) (λ k. e ∙ h (omega arith)) ∙ e
+    go (no l) = phase-out (places 256 (λ p. f (p / 8) (p % 8))) i j (omega arith) ∙ sym (g (omega arith))
+
+flag-at : (f : ℕ → Bool) (i : ℕ) → (32 ≤ i → f i ≡ false) → eqb (getD (places 32 (λ i. digit (f i))) i 0) 1 ≡ f i
+flag-at f i h = ap (λ z. eqb z 1) (at-place 32 (λ i. digit (f i)) i (λ l. ap digit (h l))) ∙ read (f i)
+  where
+    read : (b : Bool) → eqb (digit b) 1 ≡ b
+    read true = refl
+    read false = refl
+
+-- the record has 0 or 1
+pub flags-binary : (f : ℕ → Bool) (i : ℕ) → getD (places 32 (λ i. digit (f i))) i 0 ≤ 1
+flags-binary f i = go (decLt i 32)
+  where
+    small : (b : Bool) → digit b ≤ 1
+    small true = omega arith
+    small false = omega arith
+
+    go : Dec (i < 32) → getD (places 32 (λ i. digit (f i))) i 0 ≤ 1
+    go (yes l) = omega (arith, getD-places 32 (λ i. digit (f i)) i 0 l, small (f i))
+    go (no l) = omega (arith, List·getD-eq-default (places 32 (λ i. digit (f i))) 0 {n = i} (omega (arith, length-places 32 (λ i. digit (f i)))))
+
+module _ (S : Tasks) (x : Choice) (table : InTable S x) where
+  -- beyond the tasks and the phases all is 0
+  few-phases : (i : ℕ) → S .m i ≤ 8
+  few-phases i = go (decLt i (S .n))
+    where
+      go : Dec (i < S .n) → S .m i ≤ 8
+      go (yes l) = table .m-range i l .1
+      go (no l) = omega (arith, table .no-task i (omega arith) .2)
+
+  past : (i j : ℕ) → 32 ≤ i → (S .c i j ≡ 0) × (S .q i j ≡ 0) × (x i j ≡ 0)
+  past i j h = table .no-phase i j (omega (arith, table .tasks, table .no-task i (omega (arith, table .tasks)) .2))
+
+  over : (i j : ℕ) → 8 ≤ j → (S .c i j ≡ 0) × (S .q i j ≡ 0) × (x i j ≡ 0)
+  over i j h = table .no-phase i j (omega (arith, few-phases i))
+
+  pub tasks-of-record : (s : State) → tasksIn (recordOf S x s) ≡ S
+  tasks-of-record s =
+      λ k.
+      record {
+        n = S .n;
+        T = λ i. at-place 32 (S .T) i (λ h. table .no-task i (omega (arith, table .tasks)) .0) k;
+        D = λ i. at-place 32 (S .D) i (λ h. table .no-task i (omega (arith, table .tasks)) .1) k;
+        m = λ i. at-place 32 (S .m) i (λ h. table .no-task i (omega (arith, table .tasks)) .2) k;
+        c = λ i j. at-phase (S .c) i j (λ h. past i j h .0) (λ h. over i j h .0) k;
+        q = λ i j. at-phase (S .q) i j (λ h. past i j h .1) (λ h. over i j h .1) k;
+      }
+
+  pub counts-of-record : (s : State) → countsIn (recordOf S x s) ≡ x
+  counts-of-record s = λ k i j. at-phase x i j (λ h. past i j h .2) (λ h. over i j h .2) k
+
+  pub state-of-record : (s : State) → Range S s → stateIn (recordOf S x s) ≡ s
+  state-of-record s ok =
+      λ k.
+      record {
+        busy = λ i. flag-at (s .busy) i (λ h. none i h) k;
+        since = λ i. at-place 32 (s .since) i (λ h. omega (arith, ok .since i, table .no-task i (omega (arith, table .tasks)) .0)) k;
+        left = λ i. at-place 32 (s .left) i (λ h. ok .idle i (none i h) .left) k;
+        phase = λ i. at-place 32 (s .phase) i (λ h. ok .idle i (none i h) .phase) k;
+        piece = λ i. at-place 32 (s .piece) i (λ h. ok .idle i (none i h) .piece) k;
+        run = s .run;
+        ticks = s .ticks;
+      }
+    where
+      none : (i : ℕ) → 32 ≤ i → s .busy i ≡ false
+      none i h = ok .none i (omega (arith, table .tasks))
+
+-- ---- the ticks of a piece
+
+length-is : (c q x p : ℕ) → 1 ≤ p → pieceTicks c q x p ≡ pieceLength c q x (p - 1)
+unfolding pieceLength
+length-is c q x p h =
+    let e : p ≡ suc (p - 1) = omega arith in
+    ap (λ z. c / x + cond (leb z (c % x)) 1 0 + q) e
+
+pub due-of-views : (d : Dispatcher) (j : ℕ) → getD (d .phase) j 0 - 1 < 8 → 1 ≤ getD (d .piece) j 0
+    → dueTicks d (suc j) ≡ stated (tasksIn d) (countsIn d) j (getD (d .phase) j 0) (getD (d .piece) j 0)
+unfolding stated
+due-of-views d j l h =
+    let e : suc j - 1 ≡ j = omega arith in
+    let k : ℕ = getD (d .phase) j 0 - 1 in
+    ap
+    (λ z. pieceTicks (getD (d .work) (8 * z + (getD (d .phase) z 0 - 1)) 0) (getD (d .cost) (8 * z + (getD (d .phase) z 0 - 1)) 0) (getD (d .counts) (8 * z + (getD (d .phase) z 0 - 1)) 0) (getD (d .piece) z 0))
+    e ∙
+    length-is _ _ _ (getD (d .piece) j 0) h ∙
+    (λ t. pieceLength (sym (phase-in (d .work) j k l) t) (sym (phase-in (d .cost) j k l) t) (sym (phase-in (d .counts) j k l) t) (getD (d .piece) j 0 - 1))
