@@ -8,3 +8,4 @@ pub mod InRange
 pub mod Moves
 pub mod Running
 pub mod Follows
+pub mod RecordKept
