@@ -7,5 +7,6 @@ pub mod Ranging
 pub mod InRange
 pub mod Moves
 pub mod Running
+pub mod Empty
 pub mod Follows
 pub mod RecordKept

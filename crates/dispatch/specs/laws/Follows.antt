@@ -1,6 +1,6 @@
 -- A tick on the arrays, as the code makes it, keeps the promise `Ticks`: it is the rules' tick; and a tick has one outcome.
 -- Assumes nothing.
-use mathlib.Core.Path.{_≡_, refl, sym, ap, _∙_, subst}
+use mathlib.Core.Path.{_≡_, refl, sym, ap, _∙_, subst, subst₂}
 use mathlib.Core.Bool.{Bool, true, false, not, _&&_}
 use Prim.Native.Nat.{ℕ, _+_, _-_, _^_, _<_}
 use native.Mathlib.Omega.{arith}
@@ -16,6 +16,7 @@ use Rattle.dispatch.specs.declared.Answer as code
 use Rattle.dispatch.specs.declared.Dispatcher.{Dispatcher}
 use Rattle.dispatch.specs.laws.ArrayRules.{Steps, admits, answerWith, begun, dueAt, elapsed, picked, pieceEnds, ran}
 use Rattle.dispatch.specs.laws.ArraySteps.{admits-split}
+use Rattle.dispatch.specs.laws.Empty.{empty-steps, nothing}
 use Rattle.dispatch.specs.laws.Fields.{Fields, Long}
 use Rattle.dispatch.specs.laws.InRange.{range-fields, tested-is}
 use Rattle.dispatch.specs.laws.Moves.{admission, admits-is, elapses, picking}
@@ -137,17 +138,19 @@ pub empty-in-range : inRange emptyRecord ≡ true
 unfolding inRange allOf
 empty-in-range = refl
 
--- a record that the code's test passes is stepped as it is, any other as the empty record
+-- a record that the code's test passes is stepped as it is, any other gives what the empty record does
 pub ticks-in : (d : Dispatcher) → Long d → tested d ≡ true → (mask : ℕ) (flag : Bool) → mask < 2 ^ 32 → (next : Dispatcher) (r : code.Answer) → Steps d mask flag next r → Ticks d mask flag next r
 ticks-in d long e mask flag l next r h =
     let in-range : inRange d ≡ true = sym (tested-is d long) ∙ e in
     ticks-as d d (cond-true (inRange d) d emptyRecord in-range) long (range-fields d long in-range) mask flag l next r h
 
-pub ticks-out : (d : Dispatcher) → Long d → tested d ≡ false → (mask : ℕ) (flag : Bool) → mask < 2 ^ 32 → (e next : Dispatcher) (r : code.Answer) → e ≡ emptyRecord → Steps e mask flag next r → Ticks d mask flag next r
-ticks-out d long t mask flag l e next r same h =
+pub ticks-out :
+    (d : Dispatcher) → Long d → tested d ≡ false → (mask : ℕ) (flag : Bool) → mask < 2 ^ 32 → (next : Dispatcher) (r : code.Answer) →
+    next ≡ emptyRecord → r ≡ nothing mask → Ticks d mask flag next r
+ticks-out d long t mask flag l next r e f =
     ticks-as d emptyRecord (cond-false (inRange d) d emptyRecord (sym (tested-is d long) ∙ t)) empty-long
     (range-fields emptyRecord empty-long empty-in-range) mask flag l next r
-    (subst (λ (z : Dispatcher). Steps z mask flag next r) same h)
+    (subst₂ (Steps emptyRecord mask flag) (sym e) (sym f) (empty-steps mask flag))
 
 -- two outcomes that the promise allows are equal
 pub ticks-unique : (d : Dispatcher) (mask : ℕ) (flag : Bool) (next next′ : Dispatcher) (r r′ : code.Answer) → Ticks d mask flag next r → Ticks d mask flag next′ r′ → (next ≡ next′) × (r ≡ r′)
