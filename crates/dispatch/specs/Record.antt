@@ -1,7 +1,7 @@
 -- DEFINITIONS. How the dispatcher's record, an array for each field, is read as a table with counts and as the rules' state, and how it is written
 -- from them. The rules are those of promise; tasks and phases are numbered from 0.
 -- Assumes nothing.
-use mathlib.Core.Bool.{Bool, cond}
+use mathlib.Core.Bool.{Bool}
 use mathlib.Core.List.{List}
 use Prim.Native.Nat.{ℕ, _+_, _*_, _/_, _%_}
 use lib.Dec.{ltb, eqb}
@@ -9,13 +9,14 @@ use lib.ListN.{getD, replicate}
 use Rattle.arrays.specs.Masks.{bit, digit}
 use Rattle.arrays.specs.Places.{places}
 use Rattle.dispatch.specs.declared.Dispatcher.{Dispatcher}
+use Rattle.finite.specs.If.{if_then_else_}
 use Rattle.model.specs.Phase.{Choice}
 use Rattle.model.specs.Tasks.{Tasks}
 use Rattle.promise.specs.Rules.{Request, State}
 
--- an array of 256 has eight places for each task: what it says of phase j of task i
+-- what an array of 256, with eight places for each task, has at phase j of task i
 abbrev pub phaseAt : List ℕ → ℕ → ℕ → ℕ
-phaseAt a i j = cond (ltb j 8) (getD a (8 * i + j) 0) 0
+phaseAt a i j = if ltb j 8 then getD a (8 * i + j) 0 else 0
 
 -- the table in a record
 abbrev pub tasksIn : Dispatcher → Tasks

@@ -6,7 +6,6 @@ use Prim.Native.Nat.{ℕ, _+_, _-_, _^_, _<_}
 use native.Mathlib.Omega.{arith}
 use lib.Count.{ones}
 use Rattle.arrays.specs.Masks.{bit, countOf, maskOf}
-use Rattle.arrays.specs.Places.{allOf}
 use Rattle.arrays.specs.laws.Masks.{maskOf-alike, ones-maskOf}
 use Rattle.dispatch.specs.Ranges.{inRange, usable}
 use Rattle.dispatch.specs.Record.{countsIn, emptyRecord, recordOf, requestOf, stateIn, tasksIn}
@@ -16,7 +15,7 @@ use Rattle.dispatch.specs.declared.Answer as code
 use Rattle.dispatch.specs.declared.Dispatcher.{Dispatcher}
 use Rattle.dispatch.specs.laws.ArrayRules.{Steps, admits, answerWith, begun, dueAt, elapsed, picked, pieceEnds, ran}
 use Rattle.dispatch.specs.laws.ArraySteps.{admits-split}
-use Rattle.dispatch.specs.laws.Empty.{empty-steps, nothing}
+use Rattle.dispatch.specs.laws.Empty.{empty-in-range, empty-long, empty-steps, nothing}
 use Rattle.dispatch.specs.laws.Fields.{Fields, Long}
 use Rattle.dispatch.specs.laws.InRange.{range-fields, tested-is}
 use Rattle.dispatch.specs.laws.Moves.{admission, admits-is, elapses, picking}
@@ -117,26 +116,6 @@ ticks-as d e u long f mask flag l next r h =
           ones-maskOf 32 (rulesAnswer e (requestOf mask flag) .letIn) ∙
           ap (λ (z : Dispatcher). countOf 32 (rulesAnswer z (requestOf mask flag) .letIn)) (sym u);
     }
-
-empty-long : Long emptyRecord
-empty-long = record {
-  spacing = refl;
-  deadline = refl;
-  phases = refl;
-  work = refl;
-  cost = refl;
-  counts = refl;
-  since = refl;
-  unfinished = refl;
-  left = refl;
-  phase = refl;
-  piece = refl;
-}
-
--- the empty record is in range
-pub empty-in-range : inRange emptyRecord ≡ true
-unfolding inRange allOf
-empty-in-range = refl
 
 -- a record that the code's test passes is stepped as it is, any other gives what the empty record does
 pub ticks-in : (d : Dispatcher) → Long d → tested d ≡ true → (mask : ℕ) (flag : Bool) → mask < 2 ^ 32 → (next : Dispatcher) (r : code.Answer) → Steps d mask flag next r → Ticks d mask flag next r

@@ -10,7 +10,7 @@ use lib.ListN.{getD}
 use borrow.Author.Tests.{lt-ltb, le-ltb, ltb-true, eqb-true}
 use Rattle.arrays.specs.Places.{allOf}
 use Rattle.arrays.specs.Ranges as array
-use Rattle.dispatch.specs.Ranges.{inRange, jobIn, phaseIn, runIn, taskIn, taskNowIn}
+use Rattle.dispatch.specs.Ranges.{inRange, jobIn, phaseIn, runIn, taskIn, changingIn}
 use Rattle.dispatch.specs.Record.{countsIn, stateIn, tasksIn}
 use Rattle.dispatch.specs.Start.{InTable}
 use Rattle.dispatch.specs.declared.Dispatcher.{Dispatcher}
@@ -60,7 +60,7 @@ NowP d i =
     (i < d .tasks → (getD (d .since) i 0 ≤ getD (d .spacing) i 0) × (getD (d .unfinished) i 0 ≤ 1) × JobAt d i) ×
     (¬ (i < d .tasks) → (((_≡_ {A = ℕ} (getD (d .since) i 0) 0 × (getD (d .unfinished) i 0 ≡ 0)) × (getD (d .left) i 0 ≡ 0)) × (getD (d .phase) i 0 ≡ 0)) × (getD (d .piece) i 0 ≡ 0))
 
-now-decides : (d : Dispatcher) (i : ℕ) → Decides (taskNowIn d i) (NowP d i)
+now-decides : (d : Dispatcher) (i : ℕ) → Decides (changingIn d i) (NowP d i)
 now-decides d i =
     by-test (ltb-decides i (d .tasks))
     (three (leb-decides (getD (d .since) i 0) (getD (d .spacing) i 0)) (leb-decides (getD (d .unfinished) i 0) 1) (job-decides _ _ _ _ _ _ _))
@@ -76,7 +76,7 @@ range-decides d =
     both (both (both (both (leb-decides (d .tasks) 32)
     (every 32 (taskIn (tasksIn d)) (TaskP (tasksIn d)) (task-decides (tasksIn d))))
     (every 256 (λ p. phaseIn (tasksIn d) (countsIn d) (p / 8) (p % 8)) (PlaceP d) (λ p. phase-decides _ _ _ _)))
-    (every 32 (taskNowIn d) (NowP d) (now-decides d)))
+    (every 32 (changingIn d) (NowP d) (now-decides d)))
     (run-decides _ _ _ _ _)
 
 -- ---- the code's test
