@@ -1,7 +1,7 @@
 -- The last two tests of the reader, by what the horizon's functions answer. Assumes nothing.
-use mathlib.Core.Path.{_≡_, refl, sym, ap, subst, _∙_}
+use mathlib.Core.Path.{_≡_, ap, _∙_}
 use mathlib.Core.List.{List}
-use mathlib.Core.Bool.{Bool, true, false}
+use mathlib.Core.Bool.{false}
 use Prim.Native.Nat.{ℕ, _/_, _≤_, _<_}
 use native.Mathlib.Omega.{arith}
 use lib.ListN.{getD}
@@ -14,7 +14,7 @@ use Rattle.table.specs.declared.Table.{Table}
 use Rattle.table.specs.declared.Outcome.the-variants.{Read}
 use Rattle.table.specs.declared.Reading.{Reading}
 use Rattle.table.specs.Horizon.{within, Spacings}
-use Rattle.table.specs.Parse.{got, away, readingOf}
+use Rattle.table.specs.Parse.{away, readingOf}
 use Rattle.table.specs.Steps.{limited}
 use Rattle.table.specs.TaskModel.{tasksOf, jobsWithin}
 use Rattle.table.proofs.Multiples.{Under, was-above, was-under}

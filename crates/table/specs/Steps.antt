@@ -1,7 +1,6 @@
 -- What the reader's own functions answer, from one number on: the results of the parts, as steps. (Nobody need believe these: `Parse` alone
 -- says what `table::read` answers.) Assumes nothing.
 use Prim.Native.Nat.{ℕ}
-use mathlib.Core.List.{List}
 use Rattle.table.specs.declared.Table.{Table}
 use Rattle.table.specs.declared.Step.{Step}
 use Rattle.table.specs.declared.Step.the-variants.{Value as Stepped, Away}

@@ -1,7 +1,7 @@
 // The horizon of a table, the least common multiple of its spacings, under its limit; and the sum of H/T over the tasks.
 use crate::Table;
 ghost use mathlib.Core.Path.{_≡_};
-ghost use Prim.Native.Nat.{ℕ, _/_, _≤_, _<_};
+ghost use Prim.Native.Nat.{_/_, _≤_, _<_};
 ghost use lib.ListN.{getD};
 ghost use Rattle.finite.specs.Finite.{sumTo};
 ghost use Rattle.model.specs.TestPoints.{gcd, lcm, lcmTo};

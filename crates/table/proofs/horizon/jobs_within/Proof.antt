@@ -1,7 +1,7 @@
 -- `jobs_within` meets its contract. The invariant: the sum is that of the first i spacings. Assumes nothing.
 use native.Mathlib.Omega.{arith}
 use borrow.Author.Needs.{needs}
-use mathlib.Core.Path.{_≡_, refl}
+use mathlib.Core.Path.{_≡_}
 use Prim.Native.Nat.{_≤_, _+_, _*_, _/_, _-_}
 use lib.ListN.{getD}
 use Rattle.finite.specs.Finite.{sumTo}

@@ -2,7 +2,6 @@
 -- Assumes nothing.
 use borrow.Author.Needs.{needs}
 use native.Mathlib.Nat.{lt-of-le-of-lt}
-use mathlib.Core.Path.{sym}
 use lib.Dec.{lit<}
 use Rattle.table.proofs.Multiples.{gcd-positive, product-fits, within-under, within-above}
 use Rattle.table.proofs.horizon.lcm_within.Statement.{statement}
