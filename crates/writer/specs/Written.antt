@@ -1,0 +1,55 @@
+-- DEFINITIONS. The bytes of a table, as document 01 has them ("Bytes of table and answer"), and what writing them gives and leaves.
+use Prim.Native.Nat.{ℕ, zero, suc, _+_, _*_}
+use mathlib.Core.List.{List, [], _∷_, _++_}
+use mathlib.Core.Bool.{Bool, _||_}
+use mathlib.Core.Path.{_≡_}
+use lib.ListN.{length, getD, drop}
+use lib.Dec.{ltb}
+use Rattle.finite.specs.Finite.{anyTo}
+use Rattle.finite.specs.If.{if_then_else_}
+use Rattle.answer.specs.Answer.{encodeAll}
+use Rattle.table.specs.declared.Table.{Table}
+use Rattle.writer.specs.declared.Written.{Written}
+use Rattle.writer.specs.declared.Written.the-variants.{Wrote, NoRoom, OutOfRange}
+
+-- `left` phases, the first of them at place `place`: for each phase c, q
+unfoldable pub phasesFrom : (left place : ℕ) (work cost : List ℕ) → List ℕ
+phasesFrom zero place work cost = []
+phasesFrom (suc left) place work cost = getD work place 0 ∷ getD cost place 0 ∷ phasesFrom left (place + 1) work cost
+
+-- `left` tasks, the first of them task i: for each task T, D, the number of phases; then its phases, from place 8 i on
+unfoldable pub tasksFrom : (left i : ℕ) → Table → List ℕ
+tasksFrom zero i t = []
+tasksFrom (suc left) i t =
+    getD (t .spacing) i 0 ∷ getD (t .deadline) i 0 ∷ getD (t .phases) i 0
+    ∷ phasesFrom (getD (t .phases) i 0) (8 * i) (t .work) (t .cost) ++ tasksFrom left (i + 1) t
+
+-- a table: the number of tasks, the tasks, and nothing behind them
+abbrev pub tableNumbers : Table → List ℕ
+tableNumbers t = t .tasks ∷ tasksFrom (t .tasks) 0 t
+
+abbrev pub tableBytes : Table → List ℕ
+tableBytes t = encodeAll (tableNumbers t)
+
+-- whether there are more than 32 tasks, or more than 8 phases in one of them: what a table's arrays do not hold
+unfoldable pub overfull : Table → Bool
+overfull t = ltb 32 (t .tasks) || anyTo (t .tasks) (λ i. ltb 8 (getD (t .phases) i 0))
+
+-- what writing a table into a buffer of so many bytes answers
+abbrev pub answerOf : Table → (room : ℕ) → Written
+answerOf t room =
+    if overfull t then OutOfRange
+    else if ltb room (length (tableBytes t)) then NoRoom
+    else Wrote (length (tableBytes t))
+
+-- the table's bytes and then the buffer as it was found; where nothing is written it stays as it was found
+abbrev pub bufferOf : Table → (buffer : List ℕ) → List ℕ
+bufferOf t buffer =
+    if overfull t then buffer
+    else if ltb (length buffer) (length (tableBytes t)) then buffer
+    else tableBytes t ++ drop (length (tableBytes t)) buffer
+
+-- what writing gives and leaves
+pub record Writes (t : Table) (before after : List ℕ) (result : Written) : Type 0 where
+  pub result-is : result ≡ answerOf t (length before)
+  pub after-is : after ≡ bufferOf t before
