@@ -1,2 +1,7 @@
 pub mod Runs
 pub mod Outcomes
+pub mod Sizes
+pub mod Columns
+pub mod RoundTrip
+pub mod ReadBack
+pub mod Prefix

@@ -1,0 +1,32 @@
+-- Tables in bytes, among them A, B and D of document 01, that are read and written again: one list under a single claim.
+use Prim.Native.Nat.{ℕ}
+use mathlib.Core.List.{List, [], _∷_, map}
+use mathlib.Core.Path.{_≡_, refl}
+use Rattle.groups.specs.Number.{groups}
+use Rattle.groups.specs.Encode.{encodeIn}
+use Rattle.answer.specs.Answer.{encodeAll}
+use Rattle.table.specs.declared.Table.{Table}
+use Rattle.table.specs.Parse.{Result, got, away, numberIn, each, phase, task, empty, andThen, withCount}
+use Rattle.writer.specs.Written.{phasesFrom, tasksFrom, tableBytes}
+
+-- the numbers of a table, read as document 01 has them
+abbrev numbers : List ℕ → Result Table
+numbers s = andThen (numberIn 1 32 s 0) (λ (count : ℕ). each task count 0 (withCount count empty)) s
+
+-- what is written of a table that was read
+abbrev again : Result Table → List ℕ
+again (got t next) = tableBytes t
+again (away reason place) = []
+
+-- the last has a task of two phases, with numbers of one to four bytes
+abbrev pub examples : List (List ℕ)
+examples =
+    (0x02 ∷ 0x0A ∷ 0x08 ∷ 0x01 ∷ 0x02 ∷ 0x01 ∷ 0x14 ∷ 0x12 ∷ 0x01 ∷ 0x09 ∷ 0x01 ∷ [])
+    ∷ (0x02 ∷ 0x0A ∷ 0x05 ∷ 0x01 ∷ 0x02 ∷ 0x01 ∷ 0x14 ∷ 0x12 ∷ 0x01 ∷ 0x09 ∷ 0x01 ∷ [])
+    ∷ (0x02 ∷ 0x0A ∷ 0x05 ∷ 0x01 ∷ 0x02 ∷ 0x01 ∷ 0x14 ∷ 0x14 ∷ 0x01 ∷ 0x04 ∷ 0x01 ∷ [])
+    ∷ (0x01 ∷ 0x80 ∷ 0xAD ∷ 0xE2 ∷ 0x04 ∷ 0xAC ∷ 0x02 ∷ 0x02 ∷ 0x80 ∷ 0x01 ∷ 0x00 ∷ 0x07 ∷ 0xE8 ∷ 0x07 ∷ [])
+    ∷ []
+
+pub written-again : map (λ (s : List ℕ). again (numbers s)) examples ≡ examples
+unfolding task phase each numberIn groups empty tasksFrom phasesFrom encodeAll encodeIn
+written-again = refl
