@@ -1,9 +1,9 @@
 """Tables by chance: tiny ones, small busy ones, and those of the papers' experiments (UUniFast)."""
 
-from table import MOST_PHASES, Phase, Task, horizon, jobs_in_horizon
+from table import MOST_COST, MOST_PHASES, MOST_WORK, Phase, Task, horizon, jobs_in_horizon
 
 # Spacings are mostly drawn from the divisors of one of these, to keep horizons and test points few.
-BASES = [24, 36, 60, 72, 96, 120, 144, 180, 240, 360, 420, 720, 840, 1260, 2520, 5040]
+BASES = [24, 36, 60, 72, 96, 120, 144, 180, 240, 360]
 
 
 def uunifast(dice, number, total):
@@ -60,10 +60,13 @@ def divisors(base, least, most):
 
 
 def shared_phases(dice, time, number, cost_share):
-    """Phases that share out `time` between works and costs by UUniFast; each work at least 1."""
+    """Phases that share out `time` between works and costs by UUniFast, within the limits of both."""
     shares = uunifast(dice, 2 * number, time)
-    return tuple(Phase(max(1, round(shares[2 * place] + shares[2 * place + 1] * (1 - cost_share))),
-                       round(shares[2 * place + 1] * cost_share)) for place in range(number))
+    phases = []
+    for work, cost in zip(shares[::2], shares[1::2]):
+        work += cost * (1 - cost_share)
+        phases.append(Phase(min(MOST_WORK, max(1, round(work))), min(MOST_COST, round(cost * cost_share))))
+    return tuple(phases)
 
 
 def loaded_task(dice, spacing, load, implicit, most_phases, cost_share):
@@ -74,48 +77,58 @@ def loaded_task(dice, spacing, load, implicit, most_phases, cost_share):
     return Task(spacing, deadline, phases)
 
 
-def paper_tasks(dice, number, least_spacing, most_spacing, base=None, most_phases=4):
-    """A table as in the papers: UUniFast loads, spacings uniform in a range or among the divisors of `base`."""
+def paper_tasks(dice, number, spacings, most_phases=4):
+    """A table as in the papers: UUniFast loads, spacings drawn by `spacings`, implicit or constrained deadlines."""
     total = dice.pick([0.1, 0.2, 0.3, 0.4, 0.5, 0.6, 0.7, 0.8, 0.9, 0.95, 0.98, 0.999])
     implicit = dice.chance(0.5)
     cost_share = dice.pick([0.0, 0.02, 0.1, 0.3, 1.0])
-    choices = divisors(base, least_spacing, most_spacing) if base else None
-    tasks = []
-    for load in uunifast(dice, number, total):
-        spacing = dice.pick(choices) if choices else dice.between(least_spacing, most_spacing)
-        tasks.append(loaded_task(dice, spacing, load, implicit, most_phases, cost_share))
-    return tasks
+    return [loaded_task(dice, spacings(), load, implicit, most_phases, cost_share)
+            for load in uunifast(dice, number, total)]
 
 
 def small_tasks(dice):
     """A few tasks with short spacings, so that much happens in few ticks."""
-    base = dice.pick(BASES[:10])
-    return paper_tasks(dice, dice.between(1, 6), 4, 60, base, dice.pick([1, 2, 4]))
+    choices = divisors(dice.pick(BASES), 4, 60)
+    return paper_tasks(dice, dice.between(1, 6), lambda: dice.pick(choices), dice.pick([1, 2, 4]))
 
 
 def papers_few(dice):
     """Three to eight tasks with spacings as in the papers, in tenths of their unit."""
-    return paper_tasks(dice, dice.between(3, 8), 100, 300, dice.pick([600, 1200, 1800, 2400, 4200]))
+    choices = divisors(dice.pick([600, 1200, 1800, 2400, 4200]), 100, 300)
+    return paper_tasks(dice, dice.between(3, 8), lambda: dice.pick(choices))
 
 
 def papers_plain(dice):
-    """Three to four tasks with spacings uniform from 10 to 30, exactly as in the papers."""
-    return paper_tasks(dice, dice.between(3, 4), 10, 30)
+    """Three or four tasks with spacings uniform from 10 to 30, exactly as in the papers."""
+    return paper_tasks(dice, dice.between(3, 4), lambda: dice.between(10, 30))
 
 
 def papers_many(dice):
-    """Up to 32 tasks of up to eight phases, spacings among the divisors of one number."""
+    """Nine to 32 tasks of up to eight phases, spacings among the divisors of one number."""
     base = dice.pick([5040, 10080, 12600, 25200, 50400])
-    return paper_tasks(dice, dice.between(9, 32), 500, base, base, MOST_PHASES)
+    choices = divisors(base, 500, base)
+    return paper_tasks(dice, dice.between(9, 32), lambda: dice.pick(choices), MOST_PHASES)
 
 
 def long_spacings(dice):
-    """Spacings of millions of ticks with small ratios."""
-    unit = dice.between(1, 80_000_000)
-    tasks = paper_tasks(dice, dice.between(1, 8), 1, 12, 12, MOST_PHASES)
-    return [Task(task.spacing * unit, task.deadline * unit - (dice.between(0, unit - 1) if unit > 1 else 0),
-                 tuple(Phase(min(phase.work * max(1, unit // 50), 10_000_000), min(phase.cost * (unit // 99), 10_000_000))
-                       for phase in task.phases)) for task in tasks]
+    """Spacings of thousands to hundreds of millions of ticks in small ratios."""
+    unit = dice.between(1_000, dice.pick([10_000, 1_000_000, 80_000_000]))
+    return paper_tasks(dice, dice.between(1, 8), lambda: unit * dice.pick([1, 2, 3, 4, 6, 12]), MOST_PHASES)
+
+
+def full_load(dice):
+    """Tasks whose demand at the horizon is exactly H, or a tick more or less: the walk goes to its end."""
+    whole = dice.pick(BASES)
+    tasks = []
+    room = whole + dice.pick([-1, 0, 0, 1, 2])
+    for _ in range(dice.between(1, 5)):
+        spacing = dice.pick(divisors(whole, 2, whole))
+        work = dice.between(1, max(1, spacing // 3))
+        if work * (whole // spacing) < room:
+            room -= work * (whole // spacing)
+            tasks.append(Task(spacing, spacing - (dice.between(0, spacing - work) if dice.chance(0.1) else 0),
+                              (Phase(work, 0),)))
+    return dice.shuffled(tasks + [Task(whole, whole, (Phase(room, 0),))])
 
 
 def with_few_points(make, dice, most):
