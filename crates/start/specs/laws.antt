@@ -1,0 +1,4 @@
+-- What is proved of the definitions beside this folder.
+pub mod Ready
+pub mod Beginning
+pub mod Demand3
