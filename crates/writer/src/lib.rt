@@ -21,7 +21,7 @@ fn number(out: &mut [u8], at: usize, value: u32) -> usize
     requires { ⌜ at + length (encode value) ≤ length (now out) ⌝ }
     ensures { λ r. ⌜ Placed (now (out .entry)) (now (out .exit)) at r (encode value) ⌝ }
 {
-    groups::write(out, at, value as u64)
+    groups::put(out, at, value as u64)
 }
 
 // How many bytes a number has.
