@@ -1,0 +1,9 @@
+// What the programs print for a person: the verdict on a table, and a run of the dispatcher tick by tick.
+mod judged;
+mod replayed;
+
+pub use judged::verdict;
+pub use replayed::Run;
+pub use replayed::begin;
+pub use replayed::finish;
+pub use replayed::ticks;

@@ -1,0 +1,217 @@
+// A run of the dispatcher over an input: the table's length, the table, then a number for each tick, 2 mask + flag.
+use crate::judged::after;
+use crate::judged::spaced;
+use crate::judged::turned_away;
+use crate::judged::verdict;
+use dispatch::Answer;
+use dispatch::Dispatcher;
+use groups::Number;
+use libc::STDOUT_FILENO;
+use start::How;
+
+// The longest table that an input may announce: far more than a table that is read has.
+const TABLE_MOST: u64 = 65_535;
+
+// A mask of 32 bits and a flag.
+const REQUEST_MOST: u64 = 8_589_934_591;
+
+// The dispatcher's record, the number of the next tick and its place in the input; `going` until the input is turned away, and `ready` where the
+// dispatcher was started. Of each task the jobs let in and finished, the tick of the last release and the worst response.
+pub struct Run {
+    pub ready: bool,
+    pub going: bool,
+    pub place: u64,
+    pub used: usize,
+    pub tick: u64,
+    pub record: Dispatcher,
+    pub jobs: [u64; 32],
+    pub finished: [u64; 32],
+    pub released: [u64; 32],
+    pub worst: [u64; 32],
+}
+
+fn more(a: u64, b: u64) -> u64 {
+    std::num::wrapping_add_u64(a, b)
+}
+
+fn idle() -> Run {
+    Run {
+        ready: false,
+        going: false,
+        place: 0,
+        used: 0,
+        tick: 0,
+        record: Dispatcher::empty(),
+        jobs: [0; 32],
+        finished: [0; 32],
+        released: [0; 32],
+        worst: [0; 32],
+    }
+}
+
+// Starts the dispatcher on the table, or prints what the judge says of it.
+fn started(table: &[u8], used: usize) -> Run {
+    let s = start::start(table);
+    let mut r = idle();
+    r.used = used;
+    r.place = used as u64;
+    let how = s.how;
+    let How::Ready = how else {
+        verdict(table);
+        return r;
+    };
+    let d = s.dispatcher;
+    r.record = d;
+    r.ready = true;
+    r.going = true;
+    r
+}
+
+// Reads the table at the front of the input and starts the dispatcher on it; `used` is the place of the first tick.
+pub fn begin(input: &[u8]) -> Run {
+    match groups::read(input, 0) {
+        Number::Ends => turned_away(b"input turned away", 2, input.len() as u64),
+        Number::Malformed => turned_away(b"input turned away", 3, 0),
+        Number::Value(length, at) => {
+            if TABLE_MOST < length {
+                turned_away(b"input turned away", 4, 0);
+                return idle();
+            }
+            let size = length as usize;
+            if at <= input.len() {
+                if size <= input.len() - at {
+                    return started(&input[at..at + size], at + size);
+                }
+            }
+            turned_away(b"input turned away", 2, input.len() as u64);
+        }
+    }
+    idle()
+}
+
+// A tick's line.
+fn print_tick(tick: u64, a: Answer) {
+    io::print_decimal(STDOUT_FILENO, tick);
+    spaced(a.admitted as u64);
+    spaced(a.away as u64);
+    if a.task == 0 {
+        io::write_all(STDOUT_FILENO, b" -");
+    } else {
+        spaced(a.task as u64);
+        spaced(a.phase as u64);
+        spaced(a.piece as u64);
+    }
+    if a.finished {
+        io::write_all(STDOUT_FILENO, b" finished");
+    } else if a.ended {
+        io::write_all(STDOUT_FILENO, b" ended");
+    }
+    io::write_all(STDOUT_FILENO, b"\n");
+}
+
+// The tick in which each task let in was released, and one job more of each.
+fn admitted(run: Run, mask: u32) -> Run {
+    let mut r = run;
+    for i in 0usize..32 {
+        if (mask >> i) % 2 == 1 {
+            r.jobs[i] = more(r.jobs[i], 1);
+            r.released[i] = r.tick;
+        }
+    }
+    r
+}
+
+// A finished job of task i, from 0: its response is the number of ticks from its release to this one, both included.
+fn ended(run: Run, i: usize) -> Run {
+    let mut r = run;
+    if i < 32 {
+        let response = more(std::num::wrapping_sub_u64(r.tick, r.released[i]), 1);
+        r.finished[i] = more(r.finished[i], 1);
+        if r.worst[i] < response {
+            r.worst[i] = response;
+        }
+    }
+    r
+}
+
+// One tick, printed.
+fn one_tick(run: Run, request: u64) -> Run {
+    let d = run.record;
+    let t = Dispatcher::tick(d, (request / 2 % 4_294_967_296) as u32, request % 2 == 1);
+    let a = t.answer;
+    print_tick(run.tick, a);
+    let mut r = admitted(run, a.admitted);
+    if a.finished {
+        if 0 < a.task {
+            r = ended(r, a.task as usize - 1);
+        }
+    }
+    let next = t.next;
+    r.record = next;
+    r.tick = more(r.tick, 1);
+    r
+}
+
+// The input is turned away at its next number.
+fn stopped(run: Run, reason: u8, place: u64) -> Run {
+    turned_away(b"input turned away", reason, place);
+    let mut r = run;
+    r.going = false;
+    r
+}
+
+// The ticks that the bytes ask for, `used` bytes of them. Where more input follows (`whole` is false) a number that may go on in it is left.
+pub fn ticks(run: Run, bytes: &[u8], whole: bool) -> Run {
+    let mut r = run;
+    let first = run.place;
+    r.used = 0;
+    for k in 0..bytes.len() {
+        let at = r.used;
+        if at < bytes.len() {
+            if !whole & (bytes.len() - at < 8) {
+                return r;
+            }
+            match groups::read(bytes, at) {
+                Number::Ends => return stopped(r, 2, more(first, bytes.len() as u64)),
+                Number::Malformed => return stopped(r, 3, r.place),
+                Number::Value(v, next) => {
+                    if REQUEST_MOST < v {
+                        return stopped(r, 4, r.place);
+                    }
+                    r = one_tick(r, v);
+                    r.used = next;
+                    r.place = more(first, next as u64);
+                }
+            }
+        }
+    }
+    r
+}
+
+// A task's line at the end.
+fn print_task(i: usize, jobs: u64, finished: u64, worst: u64, deadline: u32) {
+    io::write_all(STDOUT_FILENO, b"task");
+    spaced(after(i));
+    io::write_all(STDOUT_FILENO, b":");
+    spaced(jobs);
+    io::write_all(STDOUT_FILENO, b" let in,");
+    spaced(finished);
+    io::write_all(STDOUT_FILENO, b" finished, worst response");
+    spaced(worst);
+    io::write_all(STDOUT_FILENO, b" of");
+    spaced(deadline as u64);
+    io::write_all(STDOUT_FILENO, b"\n");
+}
+
+// What is told of each task at the end of a run.
+pub fn finish(run: Run) {
+    let d = run.record;
+    let deadline = d.deadline;
+    if run.ready {
+        for i in 0usize..32 {
+            if i < d.tasks as usize {
+                print_task(i, run.jobs[i], run.finished[i], run.worst[i], deadline[i]);
+            }
+        }
+    }
+}
