@@ -10,7 +10,7 @@ use lib.ListN.{getD, set}
 use lib.Count.{ones}
 use Rattle.arrays.specs.Masks.{maskOf}
 use Rattle.arrays.specs.Places.{places}
-use Rattle.arrays.specs.Rules.{letsIn, urgentOf, placeOf, ticksOf, dueOf}
+use Rattle.arrays.specs.Rules.{letsIn, urgentOf, ticksOf, dueOf}
 use Rattle.arrays.specs.declared.rules.Due.{Due}
 use Rattle.dispatch.specs.declared.Answer.{Answer}
 use Rattle.dispatch.specs.declared.Dispatcher.{Dispatcher}

@@ -1,14 +1,14 @@
 -- What the range of a record's fields means: its table is in range, and its state is one that the rules keep.
 -- Assumes nothing.
-use mathlib.Core.Path.{_≡_, sym, ap, ap₂, _∙_}
-use mathlib.Core.Bool.{Bool, true, false, cond, true≢false}
+use mathlib.Core.Path.{_≡_, sym, ap, _∙_}
+use mathlib.Core.Bool.{Bool, true, false, true≢false}
 use mathlib.Core.List.{List}
-use Prim.Native.Nat.{ℕ, suc, _+_, _-_, _*_, _/_, _%_, _≤_, _<_}
+use Prim.Native.Nat.{ℕ, suc, _+_, _-_, _*_, _≤_, _<_}
 use native.Mathlib.Decide.{decLt}
 use native.Mathlib.Omega.{arith}
 use lib.Dec.{ltb, eqb}
 use lib.ListN.{length, getD, List·getD-eq-default}
-use borrow.Author.Tests.{lt-ltb, le-ltb, eqb-true, eq-eqb}
+use borrow.Author.Tests.{lt-ltb, le-ltb}
 use Rattle.dispatch.specs.Record.{countsIn, phaseAt, stateIn, tasksIn}
 use Rattle.dispatch.specs.Start.{InTable}
 use Rattle.dispatch.specs.declared.Dispatcher.{Dispatcher}
@@ -18,7 +18,7 @@ use Rattle.model.specs.Phase.{Choice}
 use Rattle.model.specs.Tasks.{Tasks}
 use Rattle.promise.specs.Rules.{State, stated}
 use Rattle.promise.specs.laws.Range.{Range, Zeros}
-use Rattle.promise.specs.laws.Remaining.{At, Proper, RunsAt}
+use Rattle.promise.specs.laws.Remaining.{Proper, RunsAt}
 
 -- the lengths of the arrays
 pub record Long (d : Dispatcher) : Type 0 where

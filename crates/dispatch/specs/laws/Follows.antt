@@ -2,7 +2,7 @@
 -- Assumes nothing.
 use mathlib.Core.Path.{_≡_, refl, sym, ap, _∙_, subst, subst₂}
 use mathlib.Core.Bool.{Bool, true, false, not, _&&_}
-use Prim.Native.Nat.{ℕ, _+_, _-_, _^_, _<_}
+use Prim.Native.Nat.{ℕ, _-_, _^_, _<_}
 use native.Mathlib.Omega.{arith}
 use lib.Count.{ones}
 use Rattle.arrays.specs.Masks.{bit, countOf, maskOf}
@@ -26,7 +26,7 @@ use Rattle.finite.specs.Finite.{Below}
 use Rattle.finite.specs.laws.Tests.{cond-false, cond-true}
 use Rattle.model.specs.Phase.{Choice}
 use Rattle.model.specs.Tasks.{Tasks}
-use Rattle.promise.specs.Rules.{Answer, State, admit, answerOf, elapse, letsIn, pick, tick, workAt}
+use Rattle.promise.specs.Rules.{Answer, State, admit, answerOf, letsIn, pick, tick, workAt}
 use Rattle.promise.specs.laws.Answers.{answer-lets}
 use Rattle.promise.specs.laws.Entering.{admit-proper}
 use Rattle.promise.specs.laws.Kept.{ranged-of}

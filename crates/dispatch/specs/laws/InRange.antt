@@ -1,7 +1,7 @@
 -- The test of a record's range and the test that the code makes are one: each passes exactly when the fields are in range.
 -- Assumes nothing.
 use mathlib.Core.Path.{_≡_, refl, sym, ap, ap₂, _∙_, subst}
-use mathlib.Core.Bool.{Bool, true, false, true≢false}
+use mathlib.Core.Bool.{true, true≢false}
 use Prim.Native.Nat.{ℕ, zero, suc, _+_, _-_, _*_, _/_, _%_, _≤_, _<_}
 use native.Mathlib.Decide.{decLt}
 use native.Mathlib.Omega.{arith}
@@ -13,11 +13,11 @@ use Rattle.dispatch.specs.Record.{countsIn, stateIn, tasksIn}
 use Rattle.dispatch.specs.declared.Dispatcher.{Dispatcher}
 use Rattle.dispatch.specs.laws.ArrayRules.{dueTicks}
 use Rattle.dispatch.specs.laws.Decided.{alike}
-use Rattle.dispatch.specs.laws.Fields.{Fields, JobAt, JobP, Long, Parts, PhaseP, RunAt, RunP, TaskP, Within, fields, phase-in}
-use Rattle.dispatch.specs.laws.Ranging.{JobOkP, NowP, PlaceOkP, PlaceP, RunOkP, TableOkP, range-decides, tested, tested-decides}
+use Rattle.dispatch.specs.laws.Fields.{Fields, JobAt, JobP, Long, PhaseP, RunAt, RunP, TaskP, Within, fields, phase-in}
+use Rattle.dispatch.specs.laws.Ranging.{NowP, PlaceOkP, PlaceP, range-decides, tested, tested-decides}
 use Rattle.dispatch.specs.laws.Views.{due-of-views}
 use Rattle.finite.specs.Finite.{Below}
-use Rattle.finite.specs.laws.Tests.{Decides, by-cases}
+use Rattle.finite.specs.laws.Tests.{by-cases}
 use Rattle.promise.specs.Rules.{stated}
 
 -- ---- a phase's place in the arrays of 256

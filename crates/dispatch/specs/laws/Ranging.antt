@@ -1,29 +1,21 @@
 -- What the test of a record's range decides, and the test that the code makes.
 -- Assumes nothing.
-use mathlib.Core.Path.{_≡_, refl, sym, ap, ap₂, _∙_}
-use mathlib.Core.Bool.{Bool, true, false, cond, _&&_, true≢false}
-use Prim.Native.Nat.{ℕ, zero, suc, _+_, _-_, _*_, _/_, _%_, _≤_, _<_}
-use native.Mathlib.Decide.{decLt, ℕ-discrete}
-use native.Mathlib.Omega.{arith}
+use mathlib.Core.Path.{_≡_}
+use mathlib.Core.Bool.{Bool, true, cond, _&&_}
+use Prim.Native.Nat.{ℕ, _+_, _-_, _*_, _/_, _%_, _≤_, _<_}
 use lib.Dec.{leb, ltb, eqb}
 use lib.ListN.{getD}
-use borrow.Author.Tests.{lt-ltb, le-ltb, ltb-true, eqb-true}
 use Rattle.arrays.specs.Places.{allOf}
 use Rattle.arrays.specs.Ranges as array
-use Rattle.dispatch.specs.Ranges.{inRange, jobIn, phaseIn, runIn, taskIn, changingIn}
+use Rattle.dispatch.specs.Ranges.{inRange, jobIn, phaseIn, taskIn, changingIn}
 use Rattle.dispatch.specs.Record.{countsIn, stateIn, tasksIn}
-use Rattle.dispatch.specs.Start.{InTable}
 use Rattle.dispatch.specs.declared.Dispatcher.{Dispatcher}
 use Rattle.dispatch.specs.laws.ArrayRules.{dueTicks}
-use Rattle.dispatch.specs.laws.Decided.{alike, both, by-test, every, restated, three, within-decides}
-use Rattle.dispatch.specs.laws.Fields.{Fields, JobAt, JobP, Long, Parts, PhaseP, RunAt, RunP, TaskP, fields, phase-in}
-use Rattle.dispatch.specs.laws.Views.{due-of-views}
+use Rattle.dispatch.specs.laws.Decided.{both, by-test, every, three, within-decides}
+use Rattle.dispatch.specs.laws.Fields.{JobAt, JobP, PhaseP, RunAt, RunP, TaskP}
 use Rattle.finite.specs.Finite.{Below}
-use Rattle.finite.specs.laws.Tests.{Decides, by-cases, eqb-decides, leb-decides, ltb-decides}
-use Rattle.model.specs.Phase.{Choice}
+use Rattle.finite.specs.laws.Tests.{Decides, eqb-decides, leb-decides, ltb-decides}
 use Rattle.model.specs.Tasks.{Tasks}
-use Rattle.promise.specs.Rules.{State, stated}
-use Rattle.promise.specs.laws.Remaining.{At, RunsAt}
 
 -- ---- what each test decides
 

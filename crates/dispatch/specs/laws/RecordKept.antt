@@ -6,25 +6,21 @@ use Prim.Native.Nat.{ℕ, zero, suc, _%_, _^_, _≤_, _<_}
 use native.Mathlib.Decide.{decLt}
 use native.Mathlib.Nat.{div-eq-of-lt, pow-le-pow-right}
 use native.Mathlib.Omega.{arith}
-use lib.Dec.{ltb, eqb}
-use lib.ListN.{getD}
+use lib.Dec.{eqb}
 use borrow.Author.Tests.{le-ltb}
-use Rattle.arrays.specs.Masks.{bit, digit, maskOf}
-use Rattle.arrays.specs.Places.{places}
+use Rattle.arrays.specs.Masks.{bit, maskOf}
 use Rattle.arrays.specs.laws.Masks.{bit-maskOf, maskOf-lt}
-use Rattle.arrays.specs.laws.Places.{getD-places, length-places}
 use Rattle.dispatch.specs.Ranges.{inRange, usable}
 use Rattle.dispatch.specs.Record.{countsIn, emptyRecord, recordOf, requestOf, stateIn, tasksIn}
 use Rattle.dispatch.specs.Start.{InTable, Ready, readyRecord}
 use Rattle.dispatch.specs.Tick.{Ticks, answerFor, answerIn, recordAfter, rulesAnswer}
 use Rattle.dispatch.specs.declared.Answer as code
 use Rattle.dispatch.specs.declared.Dispatcher.{Dispatcher}
-use Rattle.dispatch.specs.laws.Fields.{Fields}
 use Rattle.dispatch.specs.laws.Follows.{table-ranged}
 use Rattle.dispatch.specs.laws.InRange.{fields-range}
 use Rattle.dispatch.specs.laws.Views.{counts-of-record, flags-binary, state-of-record, tasks-of-record}
 use Rattle.finite.specs.laws.Tests.{cond-true}
-use Rattle.model.specs.Phase.{Choice, plain}
+use Rattle.model.specs.Phase.{Choice}
 use Rattle.model.specs.Tasks.{Sane, Tasks}
 use Rattle.promise.specs.History.{answerAt, recordAt}
 use Rattle.promise.specs.Promise.{Kept}

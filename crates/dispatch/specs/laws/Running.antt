@@ -2,13 +2,12 @@
 -- Assumes nothing.
 use mathlib.Core.Path.{_≡_, refl, sym, ap, ap₂, _∙_}
 use mathlib.Core.Bool.{Bool, true, false, cond, not, _&&_, _||_}
-use mathlib.Core.List.{List}
-use Prim.Native.Nat.{ℕ, zero, suc, _+_, _-_, _*_, _/_, _%_, _≤_, _<_}
+use Prim.Native.Nat.{ℕ, zero, suc, _+_, _-_, _*_, _/_, _%_, _<_}
 use native.Mathlib.Decide.{ℕ-discrete}
 use native.Mathlib.Omega.{arith}
 use lib.Count.{ones}
-use lib.Dec.{leb, ltb, eqb, eqb·suc-zero}
-use lib.ListN.{length, getD, set, length-set}
+use lib.Dec.{eqb, eqb·suc-zero}
+use lib.ListN.{getD, set, length-set}
 use lib.Seq.{getD-set-same, getD-set-other, ext-getD}
 use Rattle.arrays.specs.Masks.{digit}
 use Rattle.arrays.specs.Places.{places}
@@ -17,7 +16,6 @@ use Rattle.arrays.specs.laws.Places.{getD-places, length-places}
 use Rattle.dispatch.specs.Record.{recordOf}
 use Rattle.dispatch.specs.Start.{InTable}
 use Rattle.dispatch.specs.declared.Answer as code
-use Rattle.dispatch.specs.declared.Dispatcher.{Dispatcher}
 use Rattle.dispatch.specs.laws.ArrayRules.{answerWith, dueAt, goesOn, morePhases, morePieces, phaseAfter, pieceAfter, pieceEnded, pieceEnds, ran, usedUp, withJobs, withRun}
 use Rattle.dispatch.specs.laws.Moves.{jobs-alike}
 use Rattle.finite.specs.laws.Tests.{cond-false}
