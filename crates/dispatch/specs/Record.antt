@@ -2,23 +2,18 @@
 -- from them. The rules are those of promise; tasks and phases are numbered from 0.
 -- Assumes nothing.
 use mathlib.Core.Bool.{Bool}
-use mathlib.Core.List.{List}
-use Prim.Native.Nat.{ℕ, _+_, _*_, _/_, _%_}
-use lib.Dec.{ltb, eqb}
+use Prim.Native.Nat.{ℕ, _/_, _%_}
+use lib.Dec.{eqb}
 use lib.ListN.{getD, replicate}
 use Rattle.arrays.specs.Masks.{bit, digit}
 use Rattle.arrays.specs.Places.{places}
 use Rattle.dispatch.specs.declared.Dispatcher.{Dispatcher}
-use Rattle.finite.specs.If.{if_then_else_}
+use Rattle.model.specs.Arrays.{phaseAt}
 use Rattle.model.specs.Phase.{Choice}
 use Rattle.model.specs.Tasks.{Tasks}
 use Rattle.promise.specs.Rules.{Request, State}
 
--- what an array of 256, with eight places for each task, has at phase j of task i
-abbrev pub phaseAt : List ℕ → ℕ → ℕ → ℕ
-phaseAt a i j = if ltb j 8 then getD a (8 * i + j) 0 else 0
-
--- the table in a record
+-- the table in a record: arrays of 256 have eight places for each task
 abbrev pub tasksIn : Dispatcher → Tasks
 tasksIn d = record {
   n = d .tasks;

@@ -9,11 +9,13 @@ use native.Mathlib.Omega.{arith}
 use lib.Dec.{ltb, eqb}
 use lib.ListN.{length, getD, List·getD-eq-default}
 use borrow.Author.Tests.{lt-ltb, le-ltb}
-use Rattle.dispatch.specs.Record.{countsIn, phaseAt, stateIn, tasksIn}
+use Rattle.dispatch.specs.Record.{countsIn, stateIn, tasksIn}
 use Rattle.dispatch.specs.Start.{InTable}
 use Rattle.dispatch.specs.declared.Dispatcher.{Dispatcher}
 use Rattle.finite.specs.Finite.{Below}
 use Rattle.finite.specs.laws.Tests.{by-cases, cond-false, cond-true}
+use Rattle.model.specs.Arrays.{phaseAt}
+use Rattle.model.specs.laws.Arrays.{phase-none}
 use Rattle.model.specs.Phase.{Choice}
 use Rattle.model.specs.Tasks.{Tasks}
 use Rattle.promise.specs.Rules.{State, stated}
@@ -90,12 +92,6 @@ pub record Parts (d : Dispatcher) : Type 0 where
 pub beyond : (l : List ℕ) (n i : ℕ) → length l ≡ n → n ≤ i → getD l i 0 ≡ 0
 beyond l n i e h = List·getD-eq-default l 0 (omega arith)
 
-pub phase-in : (a : List ℕ) (i j : ℕ) → j < 8 → phaseAt a i j ≡ getD a (8 * i + j) 0
-phase-in a i j h = cond-true (ltb j 8) _ 0 (lt-ltb j 8 h)
-
-pub phase-out : (a : List ℕ) (i j : ℕ) → 8 ≤ j → phaseAt a i j ≡ 0
-phase-out a i j h = cond-false (ltb j 8) (getD a (8 * i + j) 0) 0 (le-ltb j 8 h)
-
 pub phase-past : (a : List ℕ) (i j : ℕ) → length a ≡ 256 → 32 ≤ i → phaseAt a i j ≡ 0
 phase-past a i j e h = by-cases (ltb j 8) (λ t. cond-true (ltb j 8) _ 0 t ∙ beyond a 256 (8 * i + j) e (omega arith)) (λ f. cond-false (ltb j 8) (getD a (8 * i + j) 0) 0 f)
 
@@ -137,7 +133,7 @@ module _ (d : Dispatcher) (long : Long d) (p : Parts d) where
     where
       go : Dec (i < 32) → Dec (j < 8) → (S .c i j ≡ 0) × (S .q i j ≡ 0) × (x i j ≡ 0)
       go (yes l) (yes k) = p .phases i j l k .1 (untrue _ (le-ltb j (S .m i) h))
-      go (yes l) (no k) = (phase-out (d .work) i j (omega arith), phase-out (d .cost) i j (omega arith), phase-out (d .counts) i j (omega arith))
+      go (yes l) (no k) = (phase-none (d .work) i j (omega arith), phase-none (d .cost) i j (omega arith), phase-none (d .counts) i j (omega arith))
       go (no l) k = (phase-past (d .work) i j (long .work) (omega arith), phase-past (d .cost) i j (long .cost) (omega arith), phase-past (d .counts) i j (long .counts) (omega arith))
 
   table : InTable S x

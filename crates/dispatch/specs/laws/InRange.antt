@@ -13,11 +13,12 @@ use Rattle.dispatch.specs.Record.{countsIn, stateIn, tasksIn}
 use Rattle.dispatch.specs.declared.Dispatcher.{Dispatcher}
 use Rattle.dispatch.specs.laws.ArrayRules.{dueTicks}
 use Rattle.dispatch.specs.laws.Decided.{alike}
-use Rattle.dispatch.specs.laws.Fields.{Fields, JobAt, JobP, Long, PhaseP, RunAt, RunP, TaskP, Within, fields, phase-in}
+use Rattle.dispatch.specs.laws.Fields.{Fields, JobAt, JobP, Long, PhaseP, RunAt, RunP, TaskP, Within, fields}
 use Rattle.dispatch.specs.laws.Ranging.{NowP, PlaceOkP, PlaceP, range-decides, tested, tested-decides}
 use Rattle.dispatch.specs.laws.Views.{due-of-views}
 use Rattle.finite.specs.Finite.{Below}
 use Rattle.finite.specs.laws.Tests.{by-cases}
+use Rattle.model.specs.laws.Arrays.{phase-at, phase-place}
 use Rattle.promise.specs.Rules.{stated}
 
 -- ---- a phase's place in the arrays of 256
@@ -33,10 +34,8 @@ phases-from P f i j l k =
 -- the phase at a place, in the views and in the arrays
 place-alike : (d : Dispatcher) (p : ℕ) → PlaceP d p ≡ PlaceOkP d p
 place-alike d p =
-    let q : 8 * (p / 8) + p % 8 ≡ p = omega arith in
-    let l : p % 8 < 8 = omega arith in
-    ap (λ z. PhaseP (ltb (p % 8) (getD (d .phases) (p / 8) 0)) z (tasksIn d .q (p / 8) (p % 8)) (countsIn d (p / 8) (p % 8))) (phase-in (d .work) (p / 8) (p % 8) l ∙ ap (λ z. getD (d .work) z 0) q) ∙
-    ap₂ (PhaseP (ltb (p % 8) (getD (d .phases) (p / 8) 0)) (getD (d .work) p 0)) (phase-in (d .cost) (p / 8) (p % 8) l ∙ ap (λ z. getD (d .cost) z 0) q) (phase-in (d .counts) (p / 8) (p % 8) l ∙ ap (λ z. getD (d .counts) z 0) q)
+    ap (λ z. PhaseP (ltb (p % 8) (getD (d .phases) (p / 8) 0)) z (tasksIn d .q (p / 8) (p % 8)) (countsIn d (p / 8) (p % 8))) (phase-place (d .work) p) ∙
+    ap₂ (PhaseP (ltb (p % 8) (getD (d .phases) (p / 8) 0)) (getD (d .work) p 0)) (phase-place (d .cost) p) (phase-place (d .counts) p)
 
 -- ---- the job of a task, with its count read in the view or straight from the array
 
@@ -121,7 +120,7 @@ module _ (d : Dispatcher) (long : Long d) where
       let few : d .tasks ≤ 32 = t .0 .0 .0 .0 in
       let numbers : Below 32 (TaskP (tasksIn d)) = λ i l. t .0 .0 .0 .1 i l .0 in
       let eight : (i : ℕ) → i < 32 → getD (d .phases) i 0 ≤ 8 = few-phases numbers in
-      let job : Below 32 (JobAt d) = λ i l. job-alike d i _ _ (eight i l) (λ k. sym (phase-in (d .counts) i _ k)) (t .0 .0 .1 i l .1) in
+      let job : Below 32 (JobAt d) = λ i l. job-alike d i _ _ (eight i l) (λ k. sym (phase-at (d .counts) i _ k)) (t .0 .0 .1 i l .1) in
       fields d long
       (record {
         few = few;
@@ -205,7 +204,7 @@ module _ (d : Dispatcher) (f : Fields d) where
         (
           (
             (few, λ i l. (task-of i, f .state .since i)),
-            λ i l. (f .binary i, job-alike d i _ _ (eight i l) (λ k. phase-in (d .counts) i _ k) (job-of i)),
+            λ i l. (f .binary i, job-alike d i _ _ (eight i l) (λ k. phase-at (d .counts) i _ k) (job-of i)),
           ),
           λ p l. subst (λ T. T) (place-alike d p) (phase-of (p / 8) (p % 8)),
         ),

@@ -12,11 +12,13 @@ use Rattle.arrays.specs.Masks.{digit}
 use Rattle.arrays.specs.Places.{places}
 use Rattle.arrays.specs.Rules.{pieceTicks}
 use Rattle.arrays.specs.laws.Places.{getD-places, length-places, places-alike, places-of}
-use Rattle.dispatch.specs.Record.{countsIn, phaseAt, recordOf, stateIn, tasksIn}
+use Rattle.dispatch.specs.Record.{countsIn, recordOf, stateIn, tasksIn}
 use Rattle.dispatch.specs.Start.{InTable}
 use Rattle.dispatch.specs.declared.Dispatcher.{Dispatcher}
 use Rattle.dispatch.specs.laws.ArrayRules.{dueTicks}
-use Rattle.dispatch.specs.laws.Fields.{Long, phase-in, phase-out}
+use Rattle.dispatch.specs.laws.Fields.{Long}
+use Rattle.model.specs.Arrays.{phaseAt}
+use Rattle.model.specs.laws.Arrays.{phase-at, phase-none, phase-place}
 use Rattle.model.specs.Phase.{Choice, pieceLength}
 use Rattle.model.specs.Tasks.{Tasks}
 use Rattle.promise.specs.Rules.{State, stated}
@@ -34,7 +36,7 @@ digit-of (suc (suc v)) h = absurd (omega arith)
 phases-of : (a : List ℕ) → length a ≡ 256 → places 256 (λ p. phaseAt a (p / 8) (p % 8)) ≡ a
 phases-of a e =
     places-alike 256 (λ p. phaseAt a (p / 8) (p % 8)) (λ p. getD a p 0)
-    (λ p l. let q : 8 * (p / 8) + p % 8 ≡ p = omega arith in phase-in a (p / 8) (p % 8) (omega arith) ∙ ap (λ z. getD a z 0) q) ∙
+    (λ p l. phase-place a p) ∙
     places-of 256 a 0 e
 
 flags-of : (a : List ℕ) → length a ≡ 32 → ((i : ℕ) → getD a i 0 ≤ 1) → places 32 (λ i. digit (eqb (getD a i 0) 1)) ≡ a
@@ -79,9 +81,9 @@ at-phase f i j h g = go (decLt j 8)
         let q : (8 * i + j) / 8 ≡ i = omega arith in
         let r : (8 * i + j) % 8 ≡ j = omega arith in
         let e : f ((8 * i + j) / 8) ((8 * i + j) % 8) ≡ f i j = ap₂ f q r in
-        phase-in (places 256 (λ p. f (p / 8) (p % 8))) i j l ∙
+        phase-at (places 256 (λ p. f (p / 8) (p % 8))) i j l ∙
         at-place 256 (λ p. f (p / 8) (p % 8)) (8 * i + j) (λ k. e ∙ h (omega arith)) ∙ e
-    go (no l) = phase-out (places 256 (λ p. f (p / 8) (p % 8))) i j (omega arith) ∙ sym (g (omega arith))
+    go (no l) = phase-none (places 256 (λ p. f (p / 8) (p % 8))) i j (omega arith) ∙ sym (g (omega arith))
 
 flag-at : (f : ℕ → Bool) (i : ℕ) → (32 ≤ i → f i ≡ false) → eqb (getD (places 32 (λ i. digit (f i))) i 0) 1 ≡ f i
 flag-at f i h = ap (λ z. eqb z 1) (at-place 32 (λ i. digit (f i)) i (λ l. ap digit (h l))) ∙ read (f i)
@@ -166,4 +168,4 @@ due-of-views d j l h =
     (λ z. pieceTicks (getD (d .work) (8 * z + (getD (d .phase) z 0 - 1)) 0) (getD (d .cost) (8 * z + (getD (d .phase) z 0 - 1)) 0) (getD (d .counts) (8 * z + (getD (d .phase) z 0 - 1)) 0) (getD (d .piece) z 0))
     e ∙
     length-is _ _ _ (getD (d .piece) j 0) h ∙
-    (λ t. pieceLength (sym (phase-in (d .work) j k l) t) (sym (phase-in (d .cost) j k l) t) (sym (phase-in (d .counts) j k l) t) (getD (d .piece) j 0 - 1))
+    (λ t. pieceLength (sym (phase-at (d .work) j k l) t) (sym (phase-at (d .cost) j k l) t) (sym (phase-at (d .counts) j k l) t) (getD (d .piece) j 0 - 1))
