@@ -4,7 +4,7 @@ use mathlib.Core.List.{List}
 use Prim.Native.Nat.{ℕ}
 use Rattle.model.specs.Tasks.{Tasks}
 use Rattle.model.specs.Phase.{plain}
-use Rattle.model.specs.Table.{answer}
+use Rattle.model.specs.Answer.{answer}
 use Rattle.model.specs.TestPoints.{horizonOf}
 use Rattle.model.specs.Walk.{verdict}
 use Rattle.table.specs.declared.Table.{Table}
