@@ -1,7 +1,9 @@
-// The thin calls over references: the demand at t of a lent slice of task structs.
-// The loop takes one struct after another by value, and a function by value adds what it demands.
+// The thin calls over references: the demand at t of a lent slice of task structs, and a lent record moved forward by a tick.
+// Each takes a struct out of the reference, passes it by value, and puts back what it is given.
+use dispatch::{Answer, Dispatcher, Ticked};
 ghost use mathlib.Core.Path.{_≡_};
 ghost use Prim.Native.Nat.{_+_, _*_, _/_};
+ghost use Rattle.dispatch.specs.Tick.{Ticks};
 ghost use Rattle.lent.specs.Lent.{Sums};
 ghost use Rattle.lent.specs.laws.Running.{told, plus, termOf};
 
@@ -81,4 +83,22 @@ pub fn demand_of(tasks: [TaskLoad; 32], t: u64) -> Demand
     ensures { λ r. ⌜ Sums tasks t r ⌝ }
 {
     demand_at(&tasks, t)
+}
+
+// Moves the caller's own record forward by a tick, and answers what the tick answers.
+pub fn advance(dispatcher: &mut Dispatcher, mask: u32, flag: bool) -> Answer
+    ensures { λ r. ⌜ Ticks (now (dispatcher .entry)) mask flag (now (dispatcher .exit)) r ⌝ }
+{
+    let t = Dispatcher::tick(*dispatcher, mask, flag);
+    *dispatcher = t.next;
+    t.answer
+}
+
+// The same of a record by value: whoever calls it makes no reference to a struct.
+pub fn advanced(dispatcher: Dispatcher, mask: u32, flag: bool) -> Ticked
+    ensures { λ r. ⌜ Ticks dispatcher mask flag (r .next) (r .answer) ⌝ }
+{
+    let mut next = dispatcher;
+    let answer = advance(&mut next, mask, flag);
+    Ticked { next, answer }
 }
