@@ -1,6 +1,8 @@
 // The thin calls over references: the demand at t of a lent slice of task structs, and a lent record moved forward by a tick.
 // Each takes a struct out of the reference, passes it by value, and puts back what it is given.
-use dispatch::{Answer, Dispatcher, Ticked};
+use dispatch::Answer;
+use dispatch::Dispatcher;
+use dispatch::Ticked;
 ghost use mathlib.Core.Path.{_≡_};
 ghost use Prim.Native.Nat.{_+_, _*_, _/_};
 ghost use Rattle.dispatch.specs.Tick.{Ticks};
