@@ -1,5 +1,4 @@
 // The C interface: each export is thin, and repeats the promise of the call that it wraps. include/clinkerbell.h declares it for C.
-use answer::Outcome;
 use dispatch::Answer;
 use dispatch::Dispatcher;
 ghost use mathlib.Core.Path.{_≡_};
@@ -8,23 +7,23 @@ ghost use Rattle.firmware.specs.Interface.{Judges, toldOf};
 
 // What `clinkerbell_judge` returns: reason 0 and the answer's length, or the reason and the place.
 #[repr(C)]
-pub struct Judged {
+pub struct Outcome {
     pub reason: u32,
     pub place: u64,
     pub length: u64,
 }
 
 // The enum as C has it.
-fn told(outcome: Outcome) -> Judged
+fn told(outcome: answer::Outcome) -> Outcome
     ensures { λ r. ⌜ r ≡ toldOf outcome ⌝ }
 {
     match outcome {
-        Outcome::Answered(length) => Judged {
+        answer::Outcome::Answered(length) => Outcome {
             reason: 0,
             place: 0,
             length: length as u64,
         },
-        Outcome::TurnedAway(reason, place) => Judged {
+        answer::Outcome::TurnedAway(reason, place) => Outcome {
             reason: reason as u32,
             place: place as u64,
             length: 0,
@@ -34,7 +33,7 @@ fn told(outcome: Outcome) -> Judged
 
 // Judges a table in bytes and writes the answer into the caller's buffer.
 #[no_mangle]
-pub extern "C" fn clinkerbell_judge(table: &[u8], answer: &mut [u8]) -> Judged
+pub extern "C" fn clinkerbell_judge(table: &[u8], answer: &mut [u8]) -> Outcome
     ensures { λ r. ⌜ Judges (now (table .entry)) (now (answer .entry)) (now (answer .exit)) r ⌝ }
 {
     told(edf::judge(table, answer))
