@@ -93,7 +93,7 @@ fn ready_a() -> Dispatcher {
         cost,
         counts,
         since: spacing,
-        unfinished: [false; 32],
+        unfinished: numbers,
         left: numbers,
         phase: numbers,
         piece: numbers,
@@ -122,7 +122,7 @@ fn spaced(n: u32) {
 fn print_tick(tick: u64, a: Answer) {
     io::print_decimal(STDOUT_FILENO, tick);
     spaced(a.admitted);
-    spaced(a.refused);
+    spaced(a.away);
     spaced(a.task);
     spaced(a.phase);
     spaced(a.piece);
