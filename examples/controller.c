@@ -38,7 +38,7 @@ static void print_accepted(const uint8_t *answer, const clinkerbell_dispatcher *
     size_t at = 1;
     uint64_t horizon = number_at(answer, &at);
     uint64_t points = number_at(answer, &at);
-    printf("accepted: all deadlines of the first %llu ms decide, %llu of them\n", (unsigned long long)horizon, (unsigned long long)points);
+    printf("accepted: the %llu test points up to %llu ms decide it\n", (unsigned long long)points, (unsigned long long)horizon);
     for (uint32_t task = 1; task <= record->tasks; task++) {
         printf("  %-15s every %2u ms, within %2u: pieces", names[task], record->spacing[task - 1], record->deadline[task - 1]);
         for (uint32_t phase = 0; phase < record->phases[task - 1]; phase++) printf(" %llu", (unsigned long long)number_at(answer, &at));

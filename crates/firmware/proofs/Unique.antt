@@ -1,12 +1,20 @@
--- What the contracts of the C interface allow is determined: two outcomes for the same call are equal. Assumes nothing.
+-- What the contracts of the C interface allow is determined: two outcomes for the same call are equal. (Of the tick, dispatch says so.)
+-- Assumes nothing.
 use mathlib.Core.Path.{_≡_, sym, ap, _∙_}
 use mathlib.Core.List.{List}
 use Prim.Native.Nat.{ℕ}
 use Rattle.edf.proofs.Unique.{judges-unique}
+use Rattle.start.specs.declared.Started as begun
+use Rattle.start.specs.laws.Beginning.{starts-one}
 use Rattle.firmware.specs.declared.Outcome.{Outcome}
-use Rattle.firmware.specs.Interface.{toldOf, Judges}
+use Rattle.firmware.specs.declared.Started.{Started}
+use Rattle.firmware.specs.Interface.{toldOf, begunOf, Judges, Starts}
 
 pub told-unique : {bytes before after after′ : List ℕ} {r r′ : Outcome} → Judges bytes before after r → Judges bytes before after′ r′ → (r ≡ r′) × (after ≡ after′)
 told-unique a b =
     let e = judges-unique (a .judged) (b .judged) in
     (a .returned ∙ ap toldOf (e .0) ∙ sym (b .returned), e .1)
+
+pub begun-unique : {bytes : List ℕ} {r r′ : Started} → Starts bytes r → Starts bytes r′ → r ≡ r′
+begun-unique {bytes} a b =
+    a .returned ∙ ap (λ (s : begun.Started). begunOf (s .how) (s .dispatcher)) (starts-one bytes (a .begun) (b .begun) (a .starts) (b .starts)) ∙ sym (b .returned)

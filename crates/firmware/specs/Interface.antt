@@ -6,15 +6,48 @@ use Prim.Native.Nat.{ℕ}
 use Rattle.answer.specs.declared.Outcome as answer
 use Rattle.answer.specs.declared.Outcome.the-variants.{Answered, TurnedAway}
 use Rattle.edf.specs.Judge as edf
+use Rattle.dispatch.specs.declared.Dispatcher.{Dispatcher}
+use Rattle.start.specs.Start as start
+use Rattle.start.specs.declared.How.{How}
+use Rattle.start.specs.declared.How.the-variants.{Ready, Refused, TurnedAway as Unread}
+use Rattle.start.specs.declared.Started as begun
 use Rattle.firmware.specs.declared.Outcome.{Outcome}
+use Rattle.firmware.specs.declared.Started.{Started}
 
 -- An answer has reason 0 and its length; a table turned away has the reason and the place. What does not apply is 0.
 abbrev pub toldOf : answer.Outcome → Outcome
 toldOf (Answered length) = record { reason = 0; place = 0; length = length }
 toldOf (TurnedAway reason place) = record { reason = reason; place = place; length = 0 }
 
--- What the judge returns to C and leaves in the buffer: what `edf::judge` promises of an outcome, and that outcome told.
+-- What the judge returns to C and leaves in the buffer: some outcome that `edf::judge` promises, in these numbers.
 pub record Judges (bytes before after : List ℕ) (r : Outcome) : Type 0 where
   pub outcome : answer.Outcome
   pub judged : edf.Judges bytes before after outcome
   pub returned : r ≡ toldOf outcome
+
+-- a start with no verdict's numbers
+abbrev pub unrefused : ℕ → ℕ → ℕ → Dispatcher → Started
+unrefused how reason place d = record { how = how; reason = reason; place = place; witness = 0; demand = 0; points = 0; task = 0; phase = 0; dispatcher = d }
+
+-- Ready is 0. Refused is 1, with the witness, the demand there, the points examined, the blocked task and phase. Turned away is 2, with the reason
+-- and the place. What does not apply is 0, and the record goes with each.
+abbrev pub begunOf : How → Dispatcher → Started
+begunOf Ready d = unrefused 0 0 0 d
+begunOf (Refused witness demand points task phase) d = record {
+  how = 1;
+  reason = 0;
+  place = 0;
+  witness = witness;
+  demand = demand;
+  points = points;
+  task = task;
+  phase = phase;
+  dispatcher = d;
+}
+begunOf (Unread reason place) d = unrefused 2 reason place d
+
+-- What starting returns to C: some start that `start::start` promises, in these numbers.
+pub record Starts (bytes : List ℕ) (r : Started) : Type 0 where
+  pub begun : begun.Started
+  pub starts : start.Starts bytes begun
+  pub returned : r ≡ begunOf (begun .how) (begun .dispatcher)

@@ -3,7 +3,7 @@ use dispatch::Answer;
 use dispatch::Dispatcher;
 ghost use mathlib.Core.Path.{_≡_};
 ghost use Rattle.dispatch.specs.Tick.{Ticks};
-ghost use Rattle.firmware.specs.Interface.{Judges, toldOf};
+ghost use Rattle.firmware.specs.Interface.{Judges, toldOf, Starts, begunOf, unrefused};
 
 // What `clinkerbell_judge` returns: reason 0 and the answer's length, or the reason and the place.
 #[repr(C)]
@@ -37,6 +37,74 @@ pub extern "C" fn clinkerbell_judge(table: &[u8], answer: &mut [u8]) -> Outcome
     ensures { λ r. ⌜ Judges (now (table .entry)) (now (answer .entry)) (now (answer .exit)) r ⌝ }
 {
     told(edf::judge(table, answer))
+}
+
+// What `clinkerbell_start` returns: 0 ready, with the record before its first tick; 1 refused, with the witness, the demand there, the points
+// examined, and the blocked task and phase; 2 turned away, with the reason and the place.
+#[repr(C)]
+pub struct Started {
+    pub how: u32,
+    pub reason: u32,
+    pub place: u64,
+    pub witness: u64,
+    pub demand: u64,
+    pub points: u64,
+    pub task: u32,
+    pub phase: u32,
+    pub dispatcher: Dispatcher,
+}
+
+// A start with no verdict's numbers.
+fn no_verdict(how: u32, reason: u32, place: u64, dispatcher: Dispatcher) -> Started
+    ensures { λ r. ⌜ r ≡ unrefused how reason place dispatcher ⌝ }
+{
+    Started {
+        how,
+        reason,
+        place,
+        witness: 0,
+        demand: 0,
+        points: 0,
+        task: 0,
+        phase: 0,
+        dispatcher,
+    }
+}
+
+// The enum beside the record, as C has them.
+fn begun(started: start::Started) -> Started
+    ensures { λ r. ⌜ r ≡ begunOf (started .how) (started .dispatcher) ⌝ }
+{
+    let how = started.how;
+    let dispatcher = started.dispatcher;
+    match how {
+        start::How::Ready => no_verdict(0, 0, 0, dispatcher),
+        start::How::Refused(witness, demand, points, task, phase) => Started {
+            how: 1,
+            reason: 0,
+            place: 0,
+            witness,
+            demand,
+            points,
+            task,
+            phase,
+            dispatcher,
+        },
+        start::How::TurnedAway(reason, place) => no_verdict(
+            2,
+            reason as u32,
+            place as u64,
+            dispatcher,
+        ),
+    }
+}
+
+// Starts a dispatcher on a table in bytes.
+#[no_mangle]
+pub extern "C" fn clinkerbell_start(table: &[u8]) -> Started
+    ensures { λ r. ⌜ Starts (now (table .entry)) r ⌝ }
+{
+    begun(start::start(table))
 }
 
 // Moves the caller's own record forward by a tick.

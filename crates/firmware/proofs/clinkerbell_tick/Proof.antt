@@ -1,7 +1,7 @@
 -- `firmware::clinkerbell_tick` meets its contract: a walk of its MIR, by hand. The reference is lent again to `lent::advance`, for a lifetime that is made for the call, and comes back at the last value that `advance` says.
 -- All that the proof knows of `advance` is that it meets its contract.
 -- Assumes nothing.
-use mathlib.Core.Path.{_≡_, refl}
+use mathlib.Core.Path.{refl}
 use Prim.Native.Nat.{ℕ, _<_, _^_}
 use mathlib.Core.List.{[], _∷_, List}
 use mathlib.Core.Bool.{Bool}

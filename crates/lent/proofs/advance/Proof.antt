@@ -1,7 +1,7 @@
 -- `lent::advance` meets its contract: a walk of its MIR, by hand. The borrow is opened, the record is copied out and passed to `tick` by value, the record that `tick` returns is written behind the reference, and the borrow is closed at it.
 -- All that the proof knows of `tick` is that it meets its contract. The records' machine values stay the laws' own (`vals`), so that no line has a field's name or number.
 -- Assumes nothing.
-use mathlib.Core.Path.{_≡_, refl, ap}
+use mathlib.Core.Path.{refl, ap}
 use Prim.Native.Nat.{ℕ, _<_, _^_}
 use mathlib.Core.List.{[], _∷_, List}
 use mathlib.Core.Bool.{Bool}

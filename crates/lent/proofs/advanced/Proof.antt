@@ -1,7 +1,7 @@
 -- `lent::advanced` meets its contract: a walk of its MIR, by hand. The record is copied into a local, which is lent to `advance` for a lifetime that is made for the call, and comes back at the last value that `advance` says.
 -- All that the proof knows of `advance` is that it meets its contract. No line has a field's name or number.
 -- Assumes nothing.
-use mathlib.Core.Path.{_≡_, refl, sym, ap}
+use mathlib.Core.Path.{refl, ap}
 use Prim.Native.Nat.{ℕ, _<_, _^_}
 use mathlib.Core.List.{[], _∷_, List}
 use mathlib.Core.Bool.{Bool}
@@ -23,7 +23,6 @@ use types.Part.{agg}
 use types.SemTy.{Body}
 use types.Tokens.{lft-new, lft-end}
 use sound.WpLaws.{FmC, fmOf, WpFn-mono}
-use denote.RattleType.{owns}
 use denote.Laws.{Is, shows}
 use denote.Lend.{lends-ref, ref-back}
 use denote.Memory.{mem, cellAt, partOf}

@@ -1,0 +1,42 @@
+-- `firmware::begun` meets its contract, case by case. Assumes nothing.
+use mathlib.Core.Path.{_≡_, sym, ap, _∙_}
+use borrow.Author.Needs.{needs}
+use Rattle.dispatch.specs.declared.Dispatcher.{Dispatcher}
+use Rattle.start.specs.declared.How.{How}
+use Rattle.firmware.specs.Interface.{begunOf}
+use Rattle.firmware.proofs.begun.Statement.{statement}
+use Rattle.firmware.proofs.begun.Tie as tie
+
+-- the enum's case, beside a record
+told-as : (d : Dispatcher) {how case : How} → how ≡ case → begunOf case d ≡ begunOf how d
+told-as d e = sym (ap (λ (x : How). begunOf x d) e)
+
+enum-told : tie.Need-enum-told
+enum-told c = search needs
+
+no-verdict-requires : tie.Need-no-verdict-requires
+no-verdict-requires c κs = search needs
+
+enum-known-how : tie.Need-enum-known-how
+enum-known-how c = search needs
+
+enum-known-how-2 : tie.Need-enum-known-how-2
+enum-known-how-2 c = search needs
+
+cast-no-verdict : tie.Need-cast-no-verdict
+cast-no-verdict c = search needs
+
+no-verdict-requires-2 : tie.Need-no-verdict-requires-2
+no-verdict-requires-2 c κs = search needs
+
+returns : tie.Need-returns
+returns c = c .no-verdict .ensures ∙ told-as (c .before .before .before .before .args .started .dispatcher) (c .before .enum-told .given .1)
+
+returns-2 : tie.Need-returns-2
+returns-2 c = told-as (c .before .before .before .before .args .started .dispatcher) (c .before .how .given .1)
+
+returns-3 : tie.Need-returns-3
+returns-3 c = c .no-verdict2 .ensures ∙ told-as (c .before .before .before .before .before .args .started .dispatcher) (c .before .before .how2 .given .1)
+
+pub begun-spec : {M : Type 1} → statement M
+begun-spec = tie.close (tie.spec enum-told no-verdict-requires enum-known-how enum-known-how-2 cast-no-verdict no-verdict-requires-2 returns returns-2 returns-3)
