@@ -106,17 +106,23 @@ static void plain_walk(const plain_table *t, uint64_t h, plain_walked *w) {
     uint64_t next[32], spacing[32], budget[32] = {0}, low = HORIZON_MOST, demand = 0;
     uint32_t n = t->tasks;
     memset(w, 0, sizeof *w);
-    for (uint32_t i = 0; i < n; i++) { next[i] = t->deadline[i]; spacing[i] = t->spacing[i]; }
+    uint64_t at = t->deadline[0];
+    for (uint32_t i = 0; i < n; i++) {
+        next[i] = t->deadline[i];
+        spacing[i] = t->spacing[i];
+        if (next[i] < at) at = next[i];
+    }
     for (;;) {
-        uint64_t at = next[0];
-        for (uint32_t i = 1; i < n; i++) if (next[i] < at) at = next[i];
         if (at > h) { w->accepted = true; return; }
-        for (uint32_t i = 0; i < n; i++)
+        uint64_t soonest = UINT64_MAX;
+        for (uint32_t i = 0; i < n; i++) {
             if (next[i] == at) {
                 if (t->deadline[i] == at) { budget[i] = plain_budget(t, i, low); w->cuts[i] = low; }
                 demand += budget[i];
                 next[i] = at + spacing[i];
             }
+            if (next[i] < soonest) soonest = next[i];
+        }
         w->points++;
         w->at = at;
         w->demand = demand;
@@ -126,6 +132,7 @@ static void plain_walk(const plain_table *t, uint64_t h, plain_walked *w) {
             if (plain_stuck(t, at, margin, w)) return;
             low = margin;
         }
+        at = soonest;
     }
 }
 
