@@ -1,1 +1,2 @@
+-- What is proved beside the functions themselves.
 pub mod Unique
