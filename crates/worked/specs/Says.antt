@@ -10,7 +10,7 @@ use Rattle.model.specs.Walk.{verdict}
 use Rattle.table.specs.declared.Table.{Table}
 use Rattle.table.specs.Parse.{Result, got, away, table}
 use Rattle.table.specs.TaskModel.{tasksOf}
-use Rattle.answer.specs.Answer.{encodeAll}
+use Rattle.groups.specs.Encode.{encodeAll}
 
 -- the bytes of an answer, or a reason and a place
 pub data Saying : Type 0 where

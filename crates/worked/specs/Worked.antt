@@ -5,7 +5,7 @@ use mathlib.Core.List.{List, _∷_, [], _++_, map}
 use Prim.Native.Nat.{ℕ}
 use Rattle.finite.specs.Finite.{anyTo, findTo, maxTo, sumTo}
 use Rattle.groups.specs.Number.{groups}
-use Rattle.groups.specs.Encode.{encodeIn}
+use Rattle.groups.specs.Encode.{encodeIn, encodeAll}
 use Rattle.model.specs.Demand.{demand, jobs}
 use Rattle.model.specs.Phase.{budget, ceilDiv, longestPiece, pieceLength}
 use Rattle.model.specs.Answer.{answer, joinTo, listTo}
@@ -14,7 +14,6 @@ use Rattle.model.specs.Walk.{blockedPhase, blockedTask, lacks, move, moveAt, mo
 use Rattle.model.specs.Works.{longest}
 use Rattle.table.specs.Parse.{table, task, phase, each, numberIn, empty}
 use Rattle.table.specs.TaskModel.{jobsWithin}
-use Rattle.answer.specs.Answer.{encodeAll}
 use Rattle.worked.specs.Says.{Saying, writes, turnsAway, says, saysOf}
 
 -- what the definitions give, and what document 01 says

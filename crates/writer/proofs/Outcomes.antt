@@ -13,8 +13,8 @@ use lib.Seq.{sets-eq}
 use Rattle.finite.specs.Finite.{anyTo}
 use Rattle.finite.specs.laws.Tests.{failed, le-or-lt, ltb-decides}
 use Rattle.finite.specs.laws.Searches.{any-decides}
-use Rattle.groups.specs.Encode.{encode}
-use Rattle.answer.specs.Answer.{encodeAll, Wrote as Placed}
+use Rattle.groups.specs.Encode.{encode, encodeAll}
+use Rattle.groups.specs.Run.{Wrote as Placed}
 use Rattle.table.specs.declared.Table.{Table}
 use Rattle.writer.specs.declared.Written.{Written}
 use Rattle.writer.specs.declared.Written.the-variants.{Wrote, NoRoom, OutOfRange}

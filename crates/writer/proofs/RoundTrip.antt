@@ -7,9 +7,8 @@ use native.Mathlib.Nat.{add-zero}
 use borrow.Author.Tests.{le-ltb}
 use lib.ListN.{length, getD, drop, length-drop}
 use lib.Seq.{drop-drop, drop-append-seam, drop-length}
-use Rattle.groups.specs.Encode.{encode}
+use Rattle.groups.specs.Encode.{encode, encodeAll}
 use Rattle.groups.proofs.RoundTrip.{round-trip}
-use Rattle.answer.specs.Answer.{encodeAll}
 use Rattle.model.specs.TestPoints.{horizonOf}
 use Rattle.table.specs.declared.Table.{Table}
 use Rattle.table.specs.Parse.{Result, got, numberIn, each, phase, task, table, nothingBehind, empty, withCount, withTask, withPhase}

@@ -4,8 +4,7 @@ use mathlib.Core.Path.{_≡_, refl, ap, sym, _∙_}
 use mathlib.Core.List.{List, [], _∷_, _++_, append-assoc}
 use native.Mathlib.Omega.{arith}
 use lib.ListN.{length, getD, length-append}
-use Rattle.groups.specs.Encode.{encode}
-use Rattle.answer.specs.Answer.{encodeAll}
+use Rattle.groups.specs.Encode.{encode, encodeAll}
 use Rattle.table.specs.declared.Table.{Table}
 use Rattle.writer.specs.Written.{phasesFrom, tasksFrom}
 

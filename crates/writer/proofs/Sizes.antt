@@ -4,9 +4,8 @@ use mathlib.Core.Path.{_≡_, refl}
 use mathlib.Core.List.{List, [], _∷_, _++_}
 use native.Mathlib.Omega.{arith}
 use lib.ListN.{length, getD, length-append}
-use Rattle.groups.specs.Encode.{encode}
+use Rattle.groups.specs.Encode.{encode, encodeAll}
 use Rattle.groups.proofs.Writing.{short}
-use Rattle.answer.specs.Answer.{encodeAll}
 use Rattle.table.specs.declared.Table.{Table}
 use Rattle.table.specs.Valid.{Phase, Valid}
 use Rattle.writer.specs.Written.{phasesFrom, tasksFrom, tableBytes}

@@ -3,8 +3,7 @@ use Prim.Native.Nat.{ℕ}
 use mathlib.Core.List.{List, [], _∷_, map}
 use mathlib.Core.Path.{_≡_, refl}
 use Rattle.groups.specs.Number.{groups}
-use Rattle.groups.specs.Encode.{encodeIn}
-use Rattle.answer.specs.Answer.{encodeAll}
+use Rattle.groups.specs.Encode.{encodeIn, encodeAll}
 use Rattle.table.specs.declared.Table.{Table}
 use Rattle.table.specs.Parse.{Result, got, away, numberIn, each, phase, task, empty, andThen, withCount}
 use Rattle.writer.specs.Written.{phasesFrom, tasksFrom, tableBytes}

@@ -7,7 +7,7 @@ use lib.ListN.{length, getD, drop}
 use lib.Dec.{ltb}
 use Rattle.finite.specs.Finite.{anyTo}
 use Rattle.finite.specs.If.{if_then_else_}
-use Rattle.answer.specs.Answer.{encodeAll}
+use Rattle.groups.specs.Encode.{encodeAll}
 use Rattle.table.specs.declared.Table.{Table}
 use Rattle.writer.specs.declared.Written.{Written}
 use Rattle.writer.specs.declared.Written.the-variants.{Wrote, NoRoom, OutOfRange}

@@ -5,8 +5,8 @@ ghost use Prim.Native.Nat.{ℕ, _+_, _-_, _*_, _≤_, _<_};
 ghost use lib.Dec.{ltb};
 ghost use lib.ListN.{length, getD};
 ghost use Rattle.finite.specs.Finite.{anyTo};
-ghost use Rattle.groups.specs.Encode.{encode};
-ghost use Rattle.answer.specs.Answer.{encodeAll, Wrote as Placed};
+ghost use Rattle.groups.specs.Encode.{encode, encodeAll};
+ghost use Rattle.groups.specs.Run.{Wrote as Placed};
 ghost use Rattle.writer.specs.Written.{phasesFrom, tasksFrom, Writes};
 
 // What writing a table answers: the number of its bytes, or why nothing was written.

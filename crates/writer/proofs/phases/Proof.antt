@@ -5,9 +5,8 @@ use mathlib.Core.List.{_++_}
 use borrow.Author.Needs.{needs}
 use denote.Ref.{now}
 use lib.ListN.{getD}
-use Rattle.groups.specs.Encode.{encode}
-use Rattle.answer.specs.Answer.{encodeAll}
-use Rattle.answer.proofs.Runs.{Left, begin, finished, room, wrote}
+use Rattle.groups.specs.Encode.{encode, encodeAll}
+use Rattle.groups.proofs.Runs.{Left, begin, finished, room, wrote}
 use Rattle.writer.specs.Written.{phasesFrom}
 use Rattle.writer.proofs.Runs.{phase-more, no-phase}
 use Rattle.writer.proofs.phases.Statement.{statement}

@@ -5,7 +5,7 @@ use native.Mathlib.Omega.{arith}
 use borrow.Author.Needs.{needs}
 use denote.Ref.{now}
 use lib.ListN.{length}
-use Rattle.answer.specs.Answer.{encodeAll}
+use Rattle.groups.specs.Encode.{encodeAll}
 use Rattle.writer.specs.Written.{phasesFrom}
 use Rattle.writer.proofs.Runs.{phase-longer, no-phase}
 use Rattle.writer.proofs.phases_length.Statement.{statement}

@@ -7,9 +7,8 @@ use native.Mathlib.Nat.{sub-zero, add-sub-cancel-left}
 use borrow.Author.Needs.{needs}
 use denote.Ref.{now}
 use lib.ListN.{getD}
-use Rattle.groups.specs.Encode.{encode}
-use Rattle.answer.specs.Answer.{encodeAll}
-use Rattle.answer.proofs.Runs.{Left, begin, finished, room, wrote}
+use Rattle.groups.specs.Encode.{encode, encodeAll}
+use Rattle.groups.proofs.Runs.{Left, begin, finished, room, wrote}
 use Rattle.writer.specs.Written.{tasksFrom}
 use Rattle.writer.proofs.Runs.{ofPhases, task-more, no-task}
 use Rattle.writer.proofs.tasks.Statement.{statement}

@@ -5,7 +5,7 @@ use native.Mathlib.Omega.{arith}
 use native.Mathlib.Nat.{sub-zero, add-sub-cancel-left}
 use borrow.Author.Needs.{needs}
 use lib.ListN.{length, getD}
-use Rattle.answer.specs.Answer.{encodeAll}
+use Rattle.groups.specs.Encode.{encodeAll}
 use Rattle.writer.specs.Written.{tasksFrom}
 use Rattle.writer.proofs.Runs.{task-longer, no-task}
 use Rattle.writer.proofs.tasks_length.Statement.{statement}

@@ -7,9 +7,8 @@ use native.Mathlib.Omega.{arith}
 use borrow.Author.Needs.{needs}
 use denote.Ref.{now}
 use lib.ListN.{length, getD}
-use Rattle.groups.specs.Encode.{encode}
-use Rattle.answer.specs.Answer.{encodeAll}
-use Rattle.answer.proofs.Runs.{Left, begin, finished, room, wrote}
+use Rattle.groups.specs.Encode.{encode, encodeAll}
+use Rattle.groups.proofs.Runs.{Left, begin, finished, room, wrote}
 use Rattle.writer.specs.Written.{tasksFrom, tableBytes}
 use Rattle.writer.proofs.Outcomes.{longTask, few, first-and-tasks, whole-length, many-tasks, many-phases, no-room, placed}
 use Rattle.writer.proofs.write.Statement.{statement}
