@@ -1,4 +1,6 @@
 // The verdict on a table, as document 01 has it ("Worked tables").
+ghost use mathlib.Core.Path.{_≡_};
+ghost use Prim.Native.Nat.{_+_, _%_, _^_};
 use answer::Outcome;
 use groups::Number;
 use libc::STDOUT_FILENO;
@@ -32,7 +34,9 @@ fn line(answer: &[u8], at: usize, count: usize) -> usize {
 }
 
 // A task's number, from 1.
-pub fn after(i: usize) -> u64 {
+pub fn after(i: usize) -> u64
+    ensures { λ r. ⌜ r ≡ (i + 1) % 2 ^ 64 ⌝ }
+{
     std::num::wrapping_add_u64(i as u64, 1)
 }
 

@@ -1,4 +1,5 @@
-// What the programs print for a person: the verdict on a table, and a run of the dispatcher tick by tick.
+// What the programs print for a person: the verdict on a table, and a run of the dispatcher tick by tick. What is printed no contract can say; it is
+// compared with stored output.
 mod judged;
 mod replayed;
 

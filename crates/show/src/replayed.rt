@@ -1,4 +1,8 @@
 // A run of the dispatcher over an input: the table's length, the table, then a number for each tick, 2 mask + flag.
+ghost use mathlib.Core.Path.{_≡_};
+ghost use mathlib.Core.Bool.{false};
+ghost use Prim.Native.Nat.{_≤_};
+ghost use lib.ListN.{length};
 use crate::judged::after;
 use crate::judged::spaced;
 use crate::judged::turned_away;
@@ -34,7 +38,9 @@ fn more(a: u64, b: u64) -> u64 {
     std::num::wrapping_add_u64(a, b)
 }
 
-fn idle() -> Run {
+fn idle() -> Run
+    ensures { λ r. ⌜ (r .ready ≡ false) × (r .used ≡ 0) ⌝ }
+{
     Run {
         ready: false,
         going: false,
@@ -50,7 +56,9 @@ fn idle() -> Run {
 }
 
 // Starts the dispatcher on the table, or prints what the judge says of it.
-fn started(table: &[u8], used: usize) -> Run {
+fn started(table: &[u8], used: usize) -> Run
+    ensures { λ r. ⌜ r .used ≡ used ⌝ }
+{
     let s = start::start(table);
     let mut r = idle();
     r.used = used;
@@ -68,7 +76,9 @@ fn started(table: &[u8], used: usize) -> Run {
 }
 
 // Reads the table at the front of the input and starts the dispatcher on it; `used` is the place of the first tick.
-pub fn begin(input: &[u8]) -> Run {
+pub fn begin(input: &[u8]) -> Run
+    ensures { λ r. ⌜ r .used ≤ length (now (input .entry)) ⌝ }
+{
     match groups::read(input, 0) {
         Number::Ends => turned_away(b"input turned away", 2, input.len() as u64),
         Number::Malformed => turned_away(b"input turned away", 3, 0),
@@ -160,8 +170,17 @@ fn stopped(run: Run, reason: u8, place: u64) -> Run {
     r
 }
 
-// The ticks that the bytes ask for, `used` bytes of them. Where more input follows (`whole` is false) a number that may go on in it is left.
-pub fn ticks(run: Run, bytes: &[u8], whole: bool) -> Run {
+// Whether the dispatcher was started does not change.
+fn kept(run: Run, ready: bool) -> Run
+    ensures { λ r. ⌜ r .ready ≡ ready ⌝ }
+{
+    let mut r = run;
+    r.ready = ready;
+    r
+}
+
+// The ticks that the bytes ask for.
+fn each_tick(run: Run, bytes: &[u8], whole: bool) -> Run {
     let mut r = run;
     let first = run.place;
     r.used = 0;
@@ -188,6 +207,13 @@ pub fn ticks(run: Run, bytes: &[u8], whole: bool) -> Run {
     r
 }
 
+// The ticks that the bytes ask for, `used` bytes of them. Where more input follows (`whole` is false) a number that may go on in it is left.
+pub fn ticks(run: Run, bytes: &[u8], whole: bool) -> Run
+    ensures { λ r. ⌜ r .ready ≡ run .ready ⌝ }
+{
+    kept(each_tick(run, bytes, whole), run.ready)
+}
+
 // A task's line at the end.
 fn print_task(i: usize, jobs: u64, finished: u64, worst: u64, deadline: u32) {
     io::write_all(STDOUT_FILENO, b"task");
@@ -203,7 +229,7 @@ fn print_task(i: usize, jobs: u64, finished: u64, worst: u64, deadline: u32) {
     io::write_all(STDOUT_FILENO, b"\n");
 }
 
-// What is told of each task at the end of a run.
+// What is told of each task at the end of a run that was ready.
 pub fn finish(run: Run) {
     let d = run.record;
     let deadline = d.deadline;

@@ -1,9 +1,9 @@
--- `show::replayed::ticks` is safe and ends. Assumes nothing.
+-- `show::replayed::each_tick` is safe and ends. Assumes nothing.
 use Prim.Native.Nat.{_≤_, _<_, _-_}
 use native.Mathlib.Omega.{arith}
 use borrow.Author.Needs.{needs}
-use Rattle.show.proofs.replayed.ticks.Statement.{statement}
-use Rattle.show.proofs.replayed.ticks.Tie as tie
+use Rattle.show.proofs.replayed.each_tick.Statement.{statement}
+use Rattle.show.proofs.replayed.each_tick.Tie as tie
 
 abbrev Inv-loop : tie.InvT-loop
 Inv-loop bytes whole r₀ first k₀ k-end r k = k ≤ k-end
@@ -71,5 +71,5 @@ loop-again c = search needs
 returns-5 : tie.Need-returns-5 Inv-loop μ-loop
 returns-5 c = search needs
 
-pub ticks-spec : {M : Type 1} → statement M
-ticks-spec = tie.close (tie.spec Inv-loop μ-loop loop-holds sub-if2 returns read-requires enum-told more-requires stopped-requires returns-2 enum-told-2 stopped-requires-2 returns-3 enum-known-v stopped-requires-3 returns-4 one-tick-requires more-requires-2 add-k loop-less loop-again returns-5)
+pub each-tick-spec : {M : Type 1} → statement M
+each-tick-spec = tie.close (tie.spec Inv-loop μ-loop loop-holds sub-if2 returns read-requires enum-told more-requires stopped-requires returns-2 enum-told-2 stopped-requires-2 returns-3 enum-known-v stopped-requires-3 returns-4 one-tick-requires more-requires-2 add-k loop-less loop-again returns-5)
