@@ -1,10 +1,11 @@
 -- What the reader's own functions answer, from one number on: the results of the parts, as steps. (Nobody need believe these: `Parse` alone
 -- says what `table::read` answers.) Assumes nothing.
 use Prim.Native.Nat.{ℕ}
+use mathlib.Core.Path.{_≡_}
+use mathlib.Core.List.{List}
 use Rattle.table.specs.declared.Table.{Table}
 use Rattle.table.specs.declared.Step.{Step}
 use Rattle.table.specs.declared.Step.the-variants.{Value as Stepped, Away}
-use Rattle.table.specs.declared.Filled.{Filled}
 use Rattle.table.specs.declared.Outcome.the-variants.{TurnedAway}
 use Rattle.table.specs.declared.Reading.{Reading}
 use Rattle.table.specs.Parser.{Result, got, away, Parser, _>>_, done}
@@ -15,9 +16,14 @@ abbrev pub stepOf : Result ℕ → Step
 stepOf (got v next) = Stepped v next
 stepOf (away reason place) = Away reason place
 
-abbrev pub filledOf : Result Table → Filled
-filledOf (got t next) = record { step = Stepped 0 next; table = t }
-filledOf (away reason place) = record { step = Away reason place; table = empty }
+-- the table of so many tasks that stands in five arrays
+abbrev pub arrays : (n : ℕ) (spacing deadline phases work cost : List ℕ) → Table
+arrays n spacing deadline phases work cost = record { tasks = n; spacing = spacing; deadline = deadline; phases = phases; work = work; cost = cost }
+
+-- A step says what reading gives: where it is a value, the table that the arrays now hold, and otherwise the reason and the place.
+pub record Fills (x : Result Table) (step : Step) (now : Table) : Type 0 where
+  pub filled : (v next : ℕ) → step ≡ Stepped v next → x ≡ got now next
+  pub turned : (reason place : ℕ) → step ≡ Away reason place → x ≡ away reason place
 
 -- a step that turned the table away, as an answer (one that did not is never asked)
 abbrev pub awayOf : Step → Reading
