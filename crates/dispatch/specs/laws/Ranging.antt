@@ -7,7 +7,7 @@ use lib.Dec.{leb, ltb, eqb}
 use lib.ListN.{getD}
 use Rattle.arrays.specs.Places.{allOf}
 use Rattle.arrays.specs.Ranges as array
-use Rattle.dispatch.specs.Ranges.{inRange, jobIn, phaseIn, taskIn, changingIn}
+use Rattle.dispatch.specs.Ranges.{inRange, phaseIn, taskIn, changingIn}
 use Rattle.dispatch.specs.Record.{countsIn, stateIn, tasksIn}
 use Rattle.dispatch.specs.declared.Dispatcher.{Dispatcher}
 use Rattle.dispatch.specs.laws.ArrayRules.{dueTicks}

@@ -1,7 +1,6 @@
 -- `replay::all_ticks` is safe and ends. Assumes nothing.
 use mathlib.Core.Path.{_≡_}
 use lib.ListN.{length}
-use native.Mathlib.Omega.{arith}
 use borrow.Author.Needs.{needs}
 use Rattle.replay.proofs.all_ticks.Statement.{statement}
 use Rattle.replay.proofs.all_ticks.Tie as tie

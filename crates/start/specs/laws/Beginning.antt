@@ -9,7 +9,6 @@ use borrow.Author.Tests.{ltb-true}
 use lib.Dec.{ltb}
 use Rattle.dispatch.specs.Record.{emptyRecord}
 use Rattle.dispatch.specs.Start.{readyRecord}
-use Rattle.dispatch.specs.declared.Dispatcher.{Dispatcher}
 use Rattle.model.specs.Arrays.{phaseAt}
 use Rattle.model.specs.Phase.{Choice, plain}
 use Rattle.model.specs.Tasks.{Each, Sane, Tasks}

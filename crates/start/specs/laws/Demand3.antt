@@ -8,11 +8,9 @@ use native.Mathlib.Omega.{arith}
 use native.Mathlib.Decide.{decLt}
 use borrow.Author.Tests.{le-ltb, lt-ltb}
 use lib.Dec.{ltb}
-use lib.ListN.{getD}
-use Rattle.dispatch.specs.Start.{InTable, Ready as MayStart, readyRecord}
+use Rattle.dispatch.specs.Start.{InTable, Ready as MayStart}
 use Rattle.dispatch.specs.declared.Answer.{Answer}
 use Rattle.dispatch.specs.laws.RecordKept.{record-kept}
-use Rattle.model.specs.Arrays.{phaseAt}
 use Rattle.model.specs.Phase.{Choice, plain}
 use Rattle.model.specs.Tasks.{Sane, Tasks}
 use Rattle.model.specs.TestPoints.{horizonOf}

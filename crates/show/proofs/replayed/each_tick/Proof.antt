@@ -1,6 +1,5 @@
 -- `show::replayed::each_tick` is safe and ends. Assumes nothing.
-use Prim.Native.Nat.{_≤_, _<_, _-_}
-use native.Mathlib.Omega.{arith}
+use Prim.Native.Nat.{_≤_, _-_}
 use borrow.Author.Needs.{needs}
 use Rattle.show.proofs.replayed.each_tick.Statement.{statement}
 use Rattle.show.proofs.replayed.each_tick.Tie as tie

@@ -1,6 +1,5 @@
 -- `show::replayed::finish` is safe and ends. Assumes nothing.
-use Prim.Native.Nat.{_≤_, _<_, _-_}
-use native.Mathlib.Omega.{arith}
+use Prim.Native.Nat.{_≤_, _-_}
 use borrow.Author.Needs.{needs}
 use Rattle.show.proofs.replayed.finish.Statement.{statement}
 use Rattle.show.proofs.replayed.finish.Tie as tie
