@@ -85,11 +85,13 @@ def ticks_step(dispatcher, requests, kind="ticks", before=b""):
 
 
 def spoiling_values(dice, name, value):
-    """Values at and around the limits of a record's field."""
+    """Values at and around the limits of a record's field, within what it can hold."""
     values = [0, 1, 2, value + 1, max(0, value - 1), dice.between(0, value), dice.between(0, value), dice.between(0, 40),
               MOST_TASKS, MOST_TASKS + 1, 9, MOST_WORK + 1, MOST_SPACING, MOST_SPACING + 1, 2 ** 31, 2 ** 32 - 1,
               dice.word()]
-    return values + [2 ** 32, 2 ** 32 + value, 2 ** 64 - 1] if name == "ticks" else values
+    if name == "ticks":
+        return [each % 2 ** 64 for each in values + [2 ** 32, 2 ** 32 + value, 2 ** 64 - 1]]
+    return [each % 2 ** 32 for each in values]
 
 
 def spoil(dice, record):
