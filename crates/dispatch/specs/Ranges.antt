@@ -11,6 +11,7 @@ use Rattle.finite.specs.If.{if_then_else_}
 use Rattle.model.specs.Phase.{Choice}
 use Rattle.model.specs.Tasks.{Tasks}
 use Rattle.promise.specs.Rules.{State, stated}
+use Rattle.model.specs.Limits.{costMost, phasesMost, spacingMost, tasksMost, workMost}
 
 -- a number from `least` to `most`
 abbrev pub within : ℕ → ℕ → ℕ → Bool
@@ -20,14 +21,14 @@ within least most v = leb least v && leb v most
 abbrev pub taskIn : Tasks → ℕ → Bool
 taskIn S i =
     if ltb i (S .n)
-    then within 1 1000000000 (S .T i) && within 1 (S .T i) (S .D i) && within 1 8 (S .m i)
+    then within 1 spacingMost (S .T i) && within 1 (S .T i) (S .D i) && within 1 phasesMost (S .m i)
     else eqb (S .T i) 0 && eqb (S .D i) 0 && eqb (S .m i) 0
 
 -- arrays of 256 for c, q and counts, in the table's ranges, each count from 1 to c; unused places 0
 abbrev pub phaseIn : Tasks → Choice → ℕ → ℕ → Bool
 phaseIn S x i j =
     if ltb j (S .m i)
-    then within 1 10000000 (S .c i j) && leb (S .q i j) 10000000 && within 1 (S .c i j) (x i j)
+    then within 1 workMost (S .c i j) && leb (S .q i j) costMost && within 1 (S .c i j) (x i j)
     else eqb (S .c i j) 0 && eqb (S .q i j) 0 && eqb (x i j) 0
 
 -- the ticks since a task's last admitted release, 0 to T
@@ -67,7 +68,7 @@ runIn S x s =
 -- record.
 unfoldable pub inRange : Dispatcher → Bool
 inRange d =
-    leb (d .tasks) 32 &&
+    leb (d .tasks) tasksMost &&
     allOf 32 (taskIn (tasksIn d)) &&
     allOf 256 (λ p. phaseIn (tasksIn d) (countsIn d) (p / 8) (p % 8)) &&
     allOf 32 (changingIn d) &&

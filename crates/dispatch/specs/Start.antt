@@ -9,15 +9,16 @@ use Rattle.model.specs.Phase.{Choice, plain}
 use Rattle.model.specs.Tasks.{Each, Tasks}
 use Rattle.model.specs.Works.{Works}
 use Rattle.promise.specs.Rules.{initial}
+use Rattle.model.specs.Limits.{costMost, phasesMost, spacingMost, tasksMost, workMost}
 
 -- a table with counts, each number in document 01's range, and 0 where there is no task or no phase
 pub record InTable (S : Tasks) (x : Choice) : Type 0 where
-  pub tasks : S .n ≤ 32
-  pub T-range : Below (S .n) (λ i. (1 ≤ S .T i) × (S .T i ≤ 1000000000))
+  pub tasks : S .n ≤ tasksMost
+  pub T-range : Below (S .n) (λ i. (1 ≤ S .T i) × (S .T i ≤ spacingMost))
   pub D-range : Below (S .n) (λ i. (1 ≤ S .D i) × (S .D i ≤ S .T i))
-  pub m-range : Below (S .n) (λ i. (1 ≤ S .m i) × (S .m i ≤ 8))
-  pub c-range : Each S (λ i j. (1 ≤ S .c i j) × (S .c i j ≤ 10000000))
-  pub q-range : Each S (λ i j. S .q i j ≤ 10000000)
+  pub m-range : Below (S .n) (λ i. (1 ≤ S .m i) × (S .m i ≤ phasesMost))
+  pub c-range : Each S (λ i j. (1 ≤ S .c i j) × (S .c i j ≤ workMost))
+  pub q-range : Each S (λ i j. S .q i j ≤ costMost)
   pub x-range : Each S (λ i j. (1 ≤ x i j) × (x i j ≤ S .c i j))
   pub no-task : (i : ℕ) → S .n ≤ i → (S .T i ≡ 0) × (S .D i ≡ 0) × (S .m i ≡ 0)
   pub no-phase : (i j : ℕ) → S .m i ≤ j → (S .c i j ≡ 0) × (S .q i j ≡ 0) × (x i j ≡ 0)
