@@ -1,4 +1,3 @@
-pub mod Places
 pub mod Masks
 pub mod Rules
 pub mod Ranges

@@ -8,7 +8,7 @@ ghost use mathlib.Core.Path.{_≡_};
 ghost use mathlib.Core.Bool.{cond, _&&_};
 ghost use lib.Dec.{leb, eqb};
 ghost use lib.ListN.{length};
-ghost use Rattle.arrays.specs.Places.{allOf};
+ghost use Rattle.finite.specs.Finite.{allTo};
 ghost use Rattle.arrays.specs.Ranges.{numbersIn, jobIn, phaseIn, tableIn, jobAt, placeIn};
 
 fn numbers_in(exists: bool, t: u32, d: u32, m: u32) -> bool
@@ -48,7 +48,7 @@ pub fn tables_in<'a>(
     phases: &'a [u32; 32],
     since: &'a [u32; 32],
 ) -> bool
-    ensures { λ r. ⌜ r ≡ allOf 32 (tableIn n (now (spacing .entry)) (now (deadline .entry)) (now (phases .entry)) (now (since .entry))) ⌝ }
+    ensures { λ r. ⌜ r ≡ allTo 32 (tableIn n (now (spacing .entry)) (now (deadline .entry)) (now (phases .entry)) (now (since .entry))) ⌝ }
 {
     let n = n as usize;
     let mut ok = true;
@@ -71,7 +71,7 @@ pub fn jobs_in<'a>(
     piece: &'a [u32; 32],
 ) -> bool
     requires { ⌜ length (now counts) ≡ 256 ⌝ }
-    ensures { λ r. ⌜ r ≡ allOf 32 (jobAt (now (deadline .entry)) (now (phases .entry)) (now (counts .entry)) (now (unfinished .entry)) (now (left .entry)) (now (phase .entry)) (now (piece .entry))) ⌝ }
+    ensures { λ r. ⌜ r ≡ allTo 32 (jobAt (now (deadline .entry)) (now (phases .entry)) (now (counts .entry)) (now (unfinished .entry)) (now (left .entry)) (now (phase .entry)) (now (piece .entry))) ⌝ }
 {
     let mut ok = true;
     for i in 0usize..32 {
@@ -97,7 +97,7 @@ pub fn places_in<'a>(
     cost: &'a [u32; 256],
     counts: &'a [u32; 256],
 ) -> bool
-    ensures { λ r. ⌜ r ≡ allOf 256 (placeIn (now (phases .entry)) (now (work .entry)) (now (cost .entry)) (now (counts .entry))) ⌝ }
+    ensures { λ r. ⌜ r ≡ allTo 256 (placeIn (now (phases .entry)) (now (work .entry)) (now (cost .entry)) (now (counts .entry))) ⌝ }
 {
     let mut ok = true;
     for p in 0usize..256 {

@@ -15,7 +15,7 @@ ghost use Prim.Native.Nat.{_+_, _-_, _*_, _^_, _<_, min};
 ghost use lib.Dec.{ltb, eqb};
 ghost use lib.ListN.{getD, length};
 ghost use Rattle.arrays.specs.Masks.{bit, digit, maskOf};
-ghost use Rattle.arrays.specs.Places.{places};
+ghost use Rattle.finite.specs.Finite.{listTo};
 ghost use Rattle.arrays.specs.Rules.{letsIn, urgentOf, pieceTicks, placeOf, ticksOf, dueOf};
 
 // The piece of a task (from 1; 0 for none) that runs or is next due: its phase and number, and how many of each there are.
@@ -57,7 +57,7 @@ pub fn let_in<'a>(
 
 pub fn set_where(a: &mut [u32; 32], m: u32, v: u32)
     requires { ⌜ length (now a) ≡ 32 ⌝ }
-    ensures { λ r. ⌜ now (a .exit) ≡ places 32 (λ i. cond (bit m i) v (getD (now (a .entry)) i 0)) ⌝ }
+    ensures { λ r. ⌜ now (a .exit) ≡ listTo 32 (λ i. cond (bit m i) v (getD (now (a .entry)) i 0)) ⌝ }
 {
     for i in 0usize..32 {
         a[i] = either((m >> i) % 2 == 1, v, a[i]);
@@ -66,7 +66,7 @@ pub fn set_where(a: &mut [u32; 32], m: u32, v: u32)
 
 pub fn take_where(a: &mut [u32; 32], m: u32, b: &[u32; 32])
     requires { ⌜ length (now a) ≡ 32 ⌝ }
-    ensures { λ r. ⌜ now (a .exit) ≡ places 32 (λ i. cond (bit m i) (getD (now (b .entry)) i 0) (getD (now (a .entry)) i 0)) ⌝ }
+    ensures { λ r. ⌜ now (a .exit) ≡ listTo 32 (λ i. cond (bit m i) (getD (now (b .entry)) i 0) (getD (now (a .entry)) i 0)) ⌝ }
 {
     for i in 0usize..32 {
         a[i] = either((m >> i) % 2 == 1, b[i], a[i]);
@@ -195,7 +195,7 @@ pub fn ticks_after(t: u32, ends: bool, ticks: u64) -> u64
 
 pub fn later(since: &mut [u32; 32], spacing: &[u32; 32])
     requires { ⌜ length (now since) ≡ 32 ⌝ }
-    ensures { λ r. ⌜ now (since .exit) ≡ places 32 (λ i. min (getD (now (spacing .entry)) i 0) (getD (now (since .entry)) i 0 + 1)) ⌝ }
+    ensures { λ r. ⌜ now (since .exit) ≡ listTo 32 (λ i. min (getD (now (spacing .entry)) i 0) (getD (now (since .entry)) i 0 + 1)) ⌝ }
 {
     for i in 0usize..32 {
         since[i] = up_to(since[i], spacing[i]);
@@ -204,7 +204,7 @@ pub fn later(since: &mut [u32; 32], spacing: &[u32; 32])
 
 pub fn sooner(left: &mut [u32; 32])
     requires { ⌜ length (now left) ≡ 32 ⌝ }
-    ensures { λ r. ⌜ now (left .exit) ≡ places 32 (λ i. getD (now (left .entry)) i 0 - 1) ⌝ }
+    ensures { λ r. ⌜ now (left .exit) ≡ listTo 32 (λ i. getD (now (left .entry)) i 0 - 1) ⌝ }
 {
     for i in 0usize..32 {
         left[i] = down(left[i]);

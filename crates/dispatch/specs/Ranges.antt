@@ -4,7 +4,7 @@ use mathlib.Core.Bool.{Bool, _&&_}
 use Prim.Native.Nat.{ℕ, _-_, _/_, _%_}
 use lib.Dec.{leb, ltb, eqb}
 use lib.ListN.{getD}
-use Rattle.arrays.specs.Places.{allOf}
+use Rattle.finite.specs.Finite.{allTo}
 use Rattle.dispatch.specs.Record.{countsIn, emptyRecord, stateIn, tasksIn}
 use Rattle.dispatch.specs.declared.Dispatcher.{Dispatcher}
 use Rattle.finite.specs.If.{if_then_else_}
@@ -69,9 +69,9 @@ runIn S x s =
 unfoldable pub inRange : Dispatcher → Bool
 inRange d =
     leb (d .tasks) tasksMost &&
-    allOf 32 (taskIn (tasksIn d)) &&
-    allOf 256 (λ p. phaseIn (tasksIn d) (countsIn d) (p / 8) (p % 8)) &&
-    allOf 32 (changingIn d) &&
+    allTo 32 (taskIn (tasksIn d)) &&
+    allTo 256 (λ p. phaseIn (tasksIn d) (countsIn d) (p / 8) (p % 8)) &&
+    allTo 32 (changingIn d) &&
     runIn (tasksIn d) (countsIn d) (stateIn d)
 
 -- a record with any field outside its range is taken as the empty record

@@ -6,7 +6,7 @@ use Prim.Native.Nat.{ℕ, _/_, _%_}
 use lib.Dec.{eqb}
 use lib.ListN.{getD, replicate}
 use Rattle.arrays.specs.Masks.{bit, digit}
-use Rattle.arrays.specs.Places.{places}
+use Rattle.finite.specs.Finite.{listTo}
 use Rattle.dispatch.specs.declared.Dispatcher.{Dispatcher}
 use Rattle.model.specs.Arrays.{phaseAt}
 use Rattle.model.specs.Phase.{Choice}
@@ -48,17 +48,17 @@ requestOf mask flag = record { mask = bit mask; flag = flag }
 abbrev pub recordOf : Tasks → Choice → State → Dispatcher
 recordOf S x s = record {
   tasks = S .n;
-  spacing = places 32 (S .T);
-  deadline = places 32 (S .D);
-  phases = places 32 (S .m);
-  work = places 256 (λ p. S .c (p / 8) (p % 8));
-  cost = places 256 (λ p. S .q (p / 8) (p % 8));
-  counts = places 256 (λ p. x (p / 8) (p % 8));
-  since = places 32 (s .since);
-  unfinished = places 32 (λ i. digit (s .busy i));
-  left = places 32 (s .left);
-  phase = places 32 (s .phase);
-  piece = places 32 (s .piece);
+  spacing = listTo 32 (S .T);
+  deadline = listTo 32 (S .D);
+  phases = listTo 32 (S .m);
+  work = listTo 256 (λ p. S .c (p / 8) (p % 8));
+  cost = listTo 256 (λ p. S .q (p / 8) (p % 8));
+  counts = listTo 256 (λ p. x (p / 8) (p % 8));
+  since = listTo 32 (s .since);
+  unfinished = listTo 32 (λ i. digit (s .busy i));
+  left = listTo 32 (s .left);
+  phase = listTo 32 (s .phase);
+  piece = listTo 32 (s .piece);
   running = s .run;
   ticks = s .ticks;
 }

@@ -1,6 +1,5 @@
 pub mod ArrayRules
 pub mod ArraySteps
-pub mod Decided
 pub mod Fields
 pub mod Views
 pub mod Ranging

@@ -1,21 +1,12 @@
 -- DEFINITIONS. Document 01, "Bytes of table and answer": the numbers of an answer, in its order.
 -- Assumes nothing.
 use mathlib.Core.List.{List, _∷_, _++_, []}
-use Prim.Native.Nat.{ℕ, zero, suc}
+use Prim.Native.Nat.{ℕ}
+use Rattle.finite.specs.Finite.{joinTo, listTo}
 use Rattle.model.specs.Phase.{Phases}
 use Rattle.model.specs.Tasks.{Tasks}
 use Rattle.model.specs.Verdict.{Verdict, accepted, refused}
 use Rattle.model.specs.Works.{longest}
-
--- f 0, .., f (n - 1)
-unfoldable pub listTo : ℕ → (ℕ → ℕ) → List ℕ
-listTo zero f = []
-listTo (suc n) f = listTo n f ++ (f n ∷ [])
-
--- the lists f 0, .., f (n - 1) one after the other
-unfoldable pub joinTo : ℕ → (ℕ → List ℕ) → List ℕ
-joinTo zero f = []
-joinTo (suc n) f = joinTo n f ++ f n
 
 -- of a task: its counts in phase order and its longest piece
 abbrev pub taskAnswer : Tasks → Phases → (ℕ → ℕ → ℕ) → ℕ → List ℕ

@@ -8,7 +8,8 @@ use Rattle.groups.specs.Number.{groups}
 use Rattle.groups.specs.Encode.{encodeIn, encodeAll}
 use Rattle.model.specs.Demand.{demand, jobs}
 use Rattle.model.specs.Phase.{budget, ceilDiv, longestPiece, pieceLength}
-use Rattle.model.specs.Answer.{answer, joinTo, listTo}
+use Rattle.finite.specs.Finite.{joinTo, listTo}
+use Rattle.model.specs.Answer.{answer}
 use Rattle.model.specs.TestPoints.{gcd, gcdIn, horizonOf, isTest, lcm, lcmTo}
 use Rattle.model.specs.Walk.{blockedPhase, blockedTask, lacks, move, moveAt, moveIn, raiseLow, verdict, walk}
 use Rattle.model.specs.Works.{longest}

@@ -9,7 +9,7 @@ use lib.Dec.{leb, ltb, eqb}
 use lib.ListN.{getD, set}
 use lib.Count.{ones}
 use Rattle.arrays.specs.Masks.{maskOf}
-use Rattle.arrays.specs.Places.{places}
+use Rattle.finite.specs.Finite.{listTo}
 use Rattle.arrays.specs.Rules.{letsIn, urgentOf, ticksOf, dueOf}
 use Rattle.arrays.specs.declared.rules.Due.{Due}
 use Rattle.dispatch.specs.declared.Answer.{Answer}
@@ -46,11 +46,11 @@ admits d mask i = letsIn (d .tasks) (d .spacing) (d .since) (d .unfinished) mask
 unfoldable pub admittedTo : Dispatcher → ℕ → Dispatcher
 admittedTo d mask =
     withJobs d
-    (places 32 (λ i. cond (admits d mask i) 0 (getD (d .since) i 0)))
-    (places 32 (λ i. cond (admits d mask i) 1 (getD (d .unfinished) i 0)))
-    (places 32 (λ i. cond (admits d mask i) (getD (d .deadline) i 0) (getD (d .left) i 0)))
-    (places 32 (λ i. cond (admits d mask i) 1 (getD (d .phase) i 0)))
-    (places 32 (λ i. cond (admits d mask i) 1 (getD (d .piece) i 0)))
+    (listTo 32 (λ i. cond (admits d mask i) 0 (getD (d .since) i 0)))
+    (listTo 32 (λ i. cond (admits d mask i) 1 (getD (d .unfinished) i 0)))
+    (listTo 32 (λ i. cond (admits d mask i) (getD (d .deadline) i 0) (getD (d .left) i 0)))
+    (listTo 32 (λ i. cond (admits d mask i) 1 (getD (d .phase) i 0)))
+    (listTo 32 (λ i. cond (admits d mask i) 1 (getD (d .piece) i 0)))
     (d .running) (d .ticks)
 
 -- ---- 2
@@ -117,9 +117,9 @@ pieceEnds d flag = not (eqb (d .running) 0) && usedUp (d .ticks) flag
 unfoldable pub elapsed : Dispatcher → Dispatcher
 elapsed d =
     withJobs d
-    (places 32 (λ i. min (getD (d .spacing) i 0) (getD (d .since) i 0 + 1)))
+    (listTo 32 (λ i. min (getD (d .spacing) i 0) (getD (d .since) i 0 + 1)))
     (d .unfinished)
-    (places 32 (λ i. getD (d .left) i 0 - 1))
+    (listTo 32 (λ i. getD (d .left) i 0 - 1))
     (d .phase) (d .piece) (d .running) (d .ticks)
 
 -- ---- the tick

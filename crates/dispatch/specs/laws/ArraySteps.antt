@@ -9,7 +9,7 @@ use lib.Dec.{ltb, eqb, eqb·suc-zero}
 use lib.ListN.{getD, set}
 use borrow.Author.Tests.{lt-ltb, eqb-true}
 use Rattle.arrays.specs.Masks.{bit, maskOf}
-use Rattle.arrays.specs.Places.{places}
+use Rattle.finite.specs.Finite.{listTo}
 use Rattle.arrays.specs.Rules.{urgentOf, ticksOf, dueOf}
 use Rattle.arrays.specs.declared.rules.Due.{Due}
 use Rattle.arrays.specs.laws.Masks.{by-bits, asked-split}
@@ -30,11 +30,11 @@ admits-split d mask m l e = rw e (asked-split 32 mask (admits d mask) l (λ i h 
 unfoldable admittedBy : Dispatcher → ℕ → Dispatcher
 admittedBy d m =
     withJobs d
-    (places 32 (λ i. cond (bit m i) 0 (getD (d .since) i 0)))
-    (places 32 (λ i. cond (bit m i) 1 (getD (d .unfinished) i 0)))
-    (places 32 (λ i. cond (bit m i) (getD (d .deadline) i 0) (getD (d .left) i 0)))
-    (places 32 (λ i. cond (bit m i) 1 (getD (d .phase) i 0)))
-    (places 32 (λ i. cond (bit m i) 1 (getD (d .piece) i 0)))
+    (listTo 32 (λ i. cond (bit m i) 0 (getD (d .since) i 0)))
+    (listTo 32 (λ i. cond (bit m i) 1 (getD (d .unfinished) i 0)))
+    (listTo 32 (λ i. cond (bit m i) (getD (d .deadline) i 0) (getD (d .left) i 0)))
+    (listTo 32 (λ i. cond (bit m i) 1 (getD (d .phase) i 0)))
+    (listTo 32 (λ i. cond (bit m i) 1 (getD (d .piece) i 0)))
     (d .running) (d .ticks)
 
 admitted-by : (d : Dispatcher) (mask m : ℕ) → m ≡ maskOf 32 (admits d mask) → admittedBy d m ≡ admittedTo d mask
@@ -70,11 +70,11 @@ picked-by d t n ht hn = start-cases d (eqb (d .running) 0) (mostUrgent d 32) t n
 -- rules 1 and 2, made of what is put one by one
 begun-by :
     (d : Dispatcher) (m : ℕ) (s : List ℕ) (u l p q : List ℕ) (t n x : ℕ) →
-    s ≡ places 32 (λ i. cond (bit m i) 0 (getD (d .since) i 0)) →
-    u ≡ places 32 (λ i. cond (bit m i) 1 (getD (d .unfinished) i 0)) →
-    l ≡ places 32 (λ i. cond (bit m i) (getD (d .deadline) i 0) (getD (d .left) i 0)) →
-    p ≡ places 32 (λ i. cond (bit m i) 1 (getD (d .phase) i 0)) →
-    q ≡ places 32 (λ i. cond (bit m i) 1 (getD (d .piece) i 0)) →
+    s ≡ listTo 32 (λ i. cond (bit m i) 0 (getD (d .since) i 0)) →
+    u ≡ listTo 32 (λ i. cond (bit m i) 1 (getD (d .unfinished) i 0)) →
+    l ≡ listTo 32 (λ i. cond (bit m i) (getD (d .deadline) i 0) (getD (d .left) i 0)) →
+    p ≡ listTo 32 (λ i. cond (bit m i) 1 (getD (d .phase) i 0)) →
+    q ≡ listTo 32 (λ i. cond (bit m i) 1 (getD (d .piece) i 0)) →
     t ≡ cond (eqb (d .running) 0) (urgentOf u l 32) (d .running) →
     n ≡ ticksOf p q (d .work) (d .cost) (d .counts) t →
     x ≡ cond (eqb (d .running) 0 && ltb 0 t) n (d .ticks) →
@@ -113,8 +113,8 @@ over-by :
     e ≡ cond (pieceEnds d flag) (set (d .left) i l) (d .left) →
     f ≡ cond (pieceEnds d flag) (set (d .phase) i j) (d .phase) →
     g ≡ cond (pieceEnds d flag) (set (d .piece) i k) (d .piece) →
-    s ≡ places 32 (λ i. min (getD (d .spacing) i 0) (getD (d .since) i 0 + 1)) →
-    m ≡ places 32 (λ i. getD e i 0 - 1) →
+    s ≡ listTo 32 (λ i. min (getD (d .spacing) i 0) (getD (d .since) i 0 + 1)) →
+    m ≡ listTo 32 (λ i. getD e i 0 - 1) →
     withJobs d s u m f g running ticks ≡ elapsed (ran d flag)
 unfolding elapsed ran
 over-by d flag w i v a l j k running ticks u e f g s m hw hi hv ha hl hj hk hr ht hu he hf hg hs hm =
@@ -141,11 +141,11 @@ pub stepped-by :
     (d : Dispatcher) (mask m : ℕ) (flag : Bool) (s : List ℕ) (u l p q : List ℕ) (t n x : ℕ) (w : Due)
     (i v a b j k running ticks : ℕ) (u2 l2 p2 q2 s2 l3 : List ℕ) (r : Answer) →
     m ≡ maskOf 32 (admits d mask) →
-    s ≡ places 32 (λ i. cond (bit m i) 0 (getD (d .since) i 0)) →
-    u ≡ places 32 (λ i. cond (bit m i) 1 (getD (d .unfinished) i 0)) →
-    l ≡ places 32 (λ i. cond (bit m i) (getD (d .deadline) i 0) (getD (d .left) i 0)) →
-    p ≡ places 32 (λ i. cond (bit m i) 1 (getD (d .phase) i 0)) →
-    q ≡ places 32 (λ i. cond (bit m i) 1 (getD (d .piece) i 0)) →
+    s ≡ listTo 32 (λ i. cond (bit m i) 0 (getD (d .since) i 0)) →
+    u ≡ listTo 32 (λ i. cond (bit m i) 1 (getD (d .unfinished) i 0)) →
+    l ≡ listTo 32 (λ i. cond (bit m i) (getD (d .deadline) i 0) (getD (d .left) i 0)) →
+    p ≡ listTo 32 (λ i. cond (bit m i) 1 (getD (d .phase) i 0)) →
+    q ≡ listTo 32 (λ i. cond (bit m i) 1 (getD (d .piece) i 0)) →
     t ≡ cond (eqb (d .running) 0) (urgentOf u l 32) (d .running) →
     n ≡ ticksOf p q (d .work) (d .cost) (d .counts) t →
     x ≡ cond (eqb (d .running) 0 && ltb 0 t) n (d .ticks) →
@@ -158,8 +158,8 @@ pub stepped-by :
     l2 ≡ cond (not (eqb t 0) && usedUp x flag) (set l i b) l →
     p2 ≡ cond (not (eqb t 0) && usedUp x flag) (set p i j) p →
     q2 ≡ cond (not (eqb t 0) && usedUp x flag) (set q i k) q →
-    s2 ≡ places 32 (λ i. min (getD (d .spacing) i 0) (getD s i 0 + 1)) →
-    l3 ≡ places 32 (λ i. getD l2 i 0 - 1) →
+    s2 ≡ listTo 32 (λ i. min (getD (d .spacing) i 0) (getD s i 0 + 1)) →
+    l3 ≡ listTo 32 (λ i. getD l2 i 0 - 1) →
     r ≡ answerWith mask m w (not (eqb t 0) && usedUp x flag) →
     Steps d mask flag (withJobs d s2 u2 l3 p2 q2 running ticks) r
 stepped-by d mask m flag s u l p q t n x w i v a b j k running ticks u2 l2 p2 q2 s2 l3 r hm hs hu hl hp hq ht hn hx hw hi hv ha hb hj hk hr hy hu2 hl2 hp2 hq2 hs2 hl3 hr2 =

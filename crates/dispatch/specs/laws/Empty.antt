@@ -9,10 +9,10 @@ use lib.Dec.{ltb}
 use lib.ListN.{getD, replicate}
 use borrow.Author.Tests.{le-ltb}
 use Rattle.arrays.specs.Masks.{bit, digit, maskOf}
-use Rattle.arrays.specs.Places.{allOf, places}
+use Rattle.finite.specs.Finite.{allTo, listTo}
 use Rattle.arrays.specs.Rules.{urgentOf}
 use Rattle.arrays.specs.laws.Masks.{maskOf-alike}
-use Rattle.arrays.specs.laws.Places.{places-alike, places-of}
+use Rattle.finite.specs.laws.Lists.{list-alike, list-of}
 use Rattle.dispatch.specs.Ranges.{inRange}
 use Rattle.dispatch.specs.Record.{countsIn, emptyRecord, stateIn, tasksIn}
 use Rattle.dispatch.specs.declared.Answer.{Answer}
@@ -38,10 +38,10 @@ empty-admits : (mask i : ℕ) → admits emptyRecord mask i ≡ false
 empty-admits mask i = no-task (bit mask i) _ _ i
 
 -- a list that no bit changes is as it was
-unchanged : (mask : ℕ) (v : ℕ → ℕ) → places 32 (λ i. cond (admits emptyRecord mask i) (v i) (getD (replicate 32 0) i 0)) ≡ replicate 32 0
+unchanged : (mask : ℕ) (v : ℕ → ℕ) → listTo 32 (λ i. cond (admits emptyRecord mask i) (v i) (getD (replicate 32 0) i 0)) ≡ replicate 32 0
 unchanged mask v =
-    places-alike 32 (λ i. cond (admits emptyRecord mask i) (v i) (getD (replicate 32 0) i 0)) (λ i. getD (replicate 32 0) i 0) (λ k l. rw (empty-admits mask k)) ∙
-    places-of 32 (replicate 32 0) 0 refl
+    list-alike 32 (λ i. cond (admits emptyRecord mask i) (v i) (getD (replicate 32 0) i 0)) (λ i. getD (replicate 32 0) i 0) (λ k l. rw (empty-admits mask k)) ∙
+    list-of 32 (replicate 32 0) 0 refl
 
 empty-admitted : (mask : ℕ) → admittedTo emptyRecord mask ≡ emptyRecord
 unfolding admittedTo
@@ -57,7 +57,7 @@ empty-begun : (mask : ℕ) → begun emptyRecord mask ≡ emptyRecord
 empty-begun mask = ap picked (empty-admitted mask) ∙ empty-picked
 
 empty-over : (flag : Bool) → elapsed (ran emptyRecord flag) ≡ emptyRecord
-unfolding ran elapsed places
+unfolding ran elapsed listTo
 empty-over flag = refl
 
 pub empty-steps : (mask : ℕ) (flag : Bool) → Steps emptyRecord mask flag emptyRecord (nothing mask)
@@ -91,16 +91,16 @@ empty-long = record {
 }
 
 pub empty-in-range : inRange emptyRecord ≡ true
-unfolding inRange allOf
+unfolding inRange allTo
 empty-in-range = refl
 
 -- nothing at every place
-none-at-all : (n : ℕ) (f : ℕ → ℕ) → ((i : ℕ) → i < n → f i ≡ 0) → places n f ≡ places n (λ i. 0)
-none-at-all n f h = places-alike n f (λ i. 0) h
+none-at-all : (n : ℕ) (f : ℕ → ℕ) → ((i : ℕ) → i < n → f i ≡ 0) → listTo n f ≡ listTo n (λ i. 0)
+none-at-all n f h = list-alike n f (λ i. 0) h
 
 -- the number of tasks is 0 only in the empty record
 pub empty-alone : (d : Dispatcher) → Long d → inRange d ≡ true → d .tasks ≡ 0 → d ≡ emptyRecord
-unfolding places
+unfolding listTo
 empty-alone d long e z =
     sym (record-of-views d long (f .binary)) ∙
     (λ k. record {

@@ -12,7 +12,7 @@ use Rattle.dispatch.specs.Ranges.{inRange}
 use Rattle.dispatch.specs.Record.{countsIn, stateIn, tasksIn}
 use Rattle.dispatch.specs.declared.Dispatcher.{Dispatcher}
 use Rattle.dispatch.specs.laws.ArrayRules.{dueTicks}
-use Rattle.dispatch.specs.laws.Decided.{alike}
+use Rattle.finite.specs.laws.Decided.{alike}
 use Rattle.dispatch.specs.laws.Fields.{Fields, JobAt, JobP, Long, PhaseP, RunAt, RunP, TaskP, Within, fields}
 use Rattle.dispatch.specs.laws.Ranging.{NowP, PlaceOkP, PlaceP, range-decides, tested, tested-decides}
 use Rattle.dispatch.specs.laws.Views.{due-of-views}

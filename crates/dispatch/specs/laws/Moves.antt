@@ -9,9 +9,9 @@ use native.Mathlib.Omega.{arith}
 use lib.Dec.{leb, ltb, eqb, eqb·suc-zero}
 use lib.ListN.{getD}
 use Rattle.arrays.specs.Masks.{bit, digit}
-use Rattle.arrays.specs.Places.{places}
+use Rattle.finite.specs.Finite.{listTo}
 use Rattle.arrays.specs.Rules.{goesBefore, urgentOf}
-use Rattle.arrays.specs.laws.Places.{getD-places, places-alike}
+use Rattle.finite.specs.laws.Lists.{getD-list, list-alike}
 use Rattle.dispatch.specs.Record.{countsIn, recordOf, tasksIn}
 use Rattle.dispatch.specs.Start.{InTable}
 use Rattle.dispatch.specs.declared.Dispatcher.{Dispatcher}
@@ -31,8 +31,8 @@ pub jobs-alike : (d : Dispatcher) {s s′ u u′ l l′ p p′ q q′ : List ℕ
 jobs-alike d a b c e f g h = λ k. withJobs d (a k) (b k) (c k) (e k) (f k) (g k) (h k)
 
 -- the number in the record, and whether a job is unfinished
-pub flag-of : (f : ℕ → Bool) (i : ℕ) → i < 32 → eqb (getD (places 32 (λ i. digit (f i))) i 0) 1 ≡ f i
-flag-of f i l = ap (λ z. eqb z 1) (getD-places 32 (λ i. digit (f i)) i 0 l) ∙ read (f i)
+pub flag-of : (f : ℕ → Bool) (i : ℕ) → i < 32 → eqb (getD (listTo 32 (λ i. digit (f i))) i 0) 1 ≡ f i
+flag-of f i l = ap (λ z. eqb z 1) (getD-list 32 (λ i. digit (f i)) i 0 l) ∙ read (f i)
   where
     read : (b : Bool) → eqb (digit b) 1 ≡ b
     read true = refl
@@ -43,8 +43,8 @@ module _ (S : Tasks) (x : Choice) (table : InTable S x) (s : State) where
   pub admits-is : (mask i : ℕ) → i < 32 → admits (recordOf S x s) mask i ≡ letsIn S s (bit mask) i
   unfolding letsIn
   admits-is mask i l =
-      ap (λ b. bit mask i && ltb i (S .n) && not b && leb (getD (places 32 (S .T)) i 0) (getD (places 32 (s .since)) i 0)) (flag-of (s .busy) i l) ∙
-      ap₂ (λ t u. bit mask i && ltb i (S .n) && not (s .busy i) && leb t u) (getD-places 32 (S .T) i 0 l) (getD-places 32 (s .since) i 0 l)
+      ap (λ b. bit mask i && ltb i (S .n) && not b && leb (getD (listTo 32 (S .T)) i 0) (getD (listTo 32 (s .since)) i 0)) (flag-of (s .busy) i l) ∙
+      ap₂ (λ t u. bit mask i && ltb i (S .n) && not (s .busy i) && leb t u) (getD-list 32 (S .T) i 0 l) (getD-list 32 (s .since) i 0 l)
 
   pub admission : (mask : ℕ) → admittedTo (recordOf S x s) mask ≡ recordOf S x (admit S (bit mask) s)
   unfolding admittedTo
@@ -52,43 +52,43 @@ module _ (S : Tasks) (x : Choice) (table : InTable S x) (s : State) where
       jobs-alike (recordOf S x s)
       (field (s .since) (λ i. 0) (λ i. 0) (λ i l. refl))
       busy
-      (field (s .left) (λ i. getD (places 32 (S .D)) i 0) (S .D) (λ i l. getD-places 32 (S .D) i 0 l))
+      (field (s .left) (λ i. getD (listTo 32 (S .D)) i 0) (S .D) (λ i l. getD-list 32 (S .D) i 0 l))
       (field (s .phase) (λ i. 1) (λ i. 1) (λ i l. refl))
       (field (s .piece) (λ i. 1) (λ i. 1) (λ i l. refl))
       refl refl
     where
       field : (f v w : ℕ → ℕ) → ((i : ℕ) → i < 32 → v i ≡ w i) →
-          places 32 (λ i. cond (admits (recordOf S x s) mask i) (v i) (getD (places 32 f) i 0)) ≡ places 32 (λ i. cond (letsIn S s (bit mask) i) (w i) (f i))
+          listTo 32 (λ i. cond (admits (recordOf S x s) mask i) (v i) (getD (listTo 32 f) i 0)) ≡ listTo 32 (λ i. cond (letsIn S s (bit mask) i) (w i) (f i))
       field f v w e =
-          places-alike 32 (λ i. cond (admits (recordOf S x s) mask i) (v i) (getD (places 32 f) i 0)) (λ i. cond (letsIn S s (bit mask) i) (w i) (f i))
-          (λ i l. ap (λ b. cond b (v i) (getD (places 32 f) i 0)) (admits-is mask i l) ∙ ap₂ (cond (letsIn S s (bit mask) i)) (e i l) (getD-places 32 f i 0 l))
+          list-alike 32 (λ i. cond (admits (recordOf S x s) mask i) (v i) (getD (listTo 32 f) i 0)) (λ i. cond (letsIn S s (bit mask) i) (w i) (f i))
+          (λ i l. ap (λ b. cond b (v i) (getD (listTo 32 f) i 0)) (admits-is mask i l) ∙ ap₂ (cond (letsIn S s (bit mask) i)) (e i l) (getD-list 32 f i 0 l))
 
       one : (a b : Bool) → cond a 1 (digit b) ≡ digit (a || b)
       one true b = refl
       one false b = refl
 
-      busy : places 32 (λ i. cond (admits (recordOf S x s) mask i) 1 (getD (places 32 (λ i. digit (s .busy i))) i 0)) ≡ places 32 (λ i. digit (letsIn S s (bit mask) i || s .busy i))
+      busy : listTo 32 (λ i. cond (admits (recordOf S x s) mask i) 1 (getD (listTo 32 (λ i. digit (s .busy i))) i 0)) ≡ listTo 32 (λ i. digit (letsIn S s (bit mask) i || s .busy i))
       busy =
           field (λ i. digit (s .busy i)) (λ i. 1) (λ i. 1) (λ i l. refl) ∙
-          places-alike 32 (λ i. cond (letsIn S s (bit mask) i) 1 (digit (s .busy i))) (λ i. digit (letsIn S s (bit mask) i || s .busy i)) (λ i l. one (letsIn S s (bit mask) i) (s .busy i))
+          list-alike 32 (λ i. cond (letsIn S s (bit mask) i) 1 (digit (s .busy i))) (λ i. digit (letsIn S s (bit mask) i || s .busy i)) (λ i l. one (letsIn S s (bit mask) i) (s .busy i))
 
   -- ---- 4. time moves on
   pub elapses : elapsed (recordOf S x s) ≡ recordOf S x (elapse S s)
   unfolding elapsed
   elapses =
       jobs-alike (recordOf S x s)
-      (places-alike 32 (λ i. min (getD (places 32 (S .T)) i 0) (getD (places 32 (s .since)) i 0 + 1)) (λ i. min (S .T i) (s .since i + 1))
-      (λ i l. ap₂ (λ t u. min t (u + 1)) (getD-places 32 (S .T) i 0 l) (getD-places 32 (s .since) i 0 l)))
+      (list-alike 32 (λ i. min (getD (listTo 32 (S .T)) i 0) (getD (listTo 32 (s .since)) i 0 + 1)) (λ i. min (S .T i) (s .since i + 1))
+      (λ i l. ap₂ (λ t u. min t (u + 1)) (getD-list 32 (S .T) i 0 l) (getD-list 32 (s .since) i 0 l)))
       refl
-      (places-alike 32 (λ i. getD (places 32 (s .left)) i 0 - 1) (λ i. s .left i - 1) (λ i l. ap (λ z. z - 1) (getD-places 32 (s .left) i 0 l)))
+      (list-alike 32 (λ i. getD (listTo 32 (s .left)) i 0 - 1) (λ i. s .left i - 1) (λ i l. ap (λ z. z - 1) (getD-list 32 (s .left) i 0 l)))
       refl refl refl refl
 
   -- ---- 2. picking
   abbrev u : List ℕ
-  u = places 32 (λ i. digit (s .busy i))
+  u = listTo 32 (λ i. digit (s .busy i))
 
   abbrev a : List ℕ
-  a = places 32 (s .left)
+  a = listTo 32 (s .left)
 
   -- the best so far is 0 or one of the tasks looked at
   best-most : (n : ℕ) → best s n ≤ n
@@ -107,7 +107,7 @@ module _ (S : Tasks) (x : Choice) (table : InTable S x) (s : State) where
       let k : j < 32 = omega arith in
       ap₂ (λ c z. c && (z || ltb (getD a i 0) (getD a (suc j - 1) 0))) (flag-of (s .busy) i l) (eqb·suc-zero j) ∙
       ap (λ z. s .busy i && ltb (getD a i 0) (getD a z 0)) e ∙
-      ap₂ (λ y z. s .busy i && ltb y z) (getD-places 32 (s .left) i 0 l) (getD-places 32 (s .left) j 0 k)
+      ap₂ (λ y z. s .busy i && ltb y z) (getD-list 32 (s .left) i 0 l) (getD-list 32 (s .left) j 0 k)
 
   urgent-is : (n : ℕ) → n ≤ 32 → urgentOf u a n ≡ best s n
   unfolding urgentOf best
@@ -131,8 +131,8 @@ module _ (S : Tasks) (x : Choice) (table : InTable S x) (s : State) where
   pub due-is : (j : ℕ) → j < S .n → At S x j (s .phase j) (s .piece j) → dueTicks (recordOf S x s) (suc j) ≡ stated S x j (s .phase j) (s .piece j)
   due-is j l at =
       let k : j < 32 = omega (arith, table .tasks) in
-      let phase : getD (places 32 (s .phase)) j 0 ≡ s .phase j = getD-places 32 (s .phase) j 0 k in
-      let piece : getD (places 32 (s .piece)) j 0 ≡ s .piece j = getD-places 32 (s .piece) j 0 k in
+      let phase : getD (listTo 32 (s .phase)) j 0 ≡ s .phase j = getD-list 32 (s .phase) j 0 k in
+      let piece : getD (listTo 32 (s .piece)) j 0 ≡ s .piece j = getD-list 32 (s .piece) j 0 k in
       due-of-views (recordOf S x s) j (omega (arith, at .phase-least, at .phase-most, table .m-range j l .1)) (omega (arith, at .piece-least)) ∙
       ap₂ (stated (tasksIn (recordOf S x s)) (countsIn (recordOf S x s)) j) phase piece ∙
       ap₂ (λ S x. stated S x j (s .phase j) (s .piece j)) (tasks-of-record S x table s) (counts-of-record S x table s)

@@ -5,13 +5,13 @@ use mathlib.Core.Bool.{Bool, true, cond, _&&_}
 use Prim.Native.Nat.{ℕ, _+_, _-_, _*_, _/_, _%_, _≤_, _<_}
 use lib.Dec.{leb, ltb, eqb}
 use lib.ListN.{getD}
-use Rattle.arrays.specs.Places.{allOf}
+use Rattle.finite.specs.Finite.{allTo}
 use Rattle.arrays.specs.Ranges as array
 use Rattle.dispatch.specs.Ranges.{inRange, phaseIn, taskIn, changingIn}
 use Rattle.dispatch.specs.Record.{countsIn, stateIn, tasksIn}
 use Rattle.dispatch.specs.declared.Dispatcher.{Dispatcher}
 use Rattle.dispatch.specs.laws.ArrayRules.{dueTicks}
-use Rattle.dispatch.specs.laws.Decided.{both, by-test, every, three, within-decides}
+use Rattle.finite.specs.laws.Decided.{both, by-test, every, three, within-decides}
 use Rattle.dispatch.specs.laws.Fields.{JobAt, JobP, PhaseP, RunAt, RunP, TaskP}
 use Rattle.finite.specs.Finite.{Below}
 use Rattle.finite.specs.laws.Tests.{Decides, eqb-decides, leb-decides, ltb-decides}
@@ -89,12 +89,12 @@ runOk d =
     (leb (d .running) (d .tasks) && eqb (getD (d .unfinished) (d .running - 1) 0) 1 && (leb 1 (d .ticks) && leb (d .ticks) (dueTicks d (d .running))))
 
 unfoldable pub tested : Dispatcher → Bool
-tested d = leb (d .tasks) 32 && allOf 32 (tableOk d) && allOf 32 (jobOk d) && allOf 256 (placeOk d) && runOk d
+tested d = leb (d .tasks) 32 && allTo 32 (tableOk d) && allTo 32 (jobOk d) && allTo 256 (placeOk d) && runOk d
 
 -- the same, from what the code computes one by one
 pub tested-by :
     (d : Dispatcher) (a b c r : Bool) (u i n : ℕ) →
-    a ≡ allOf 32 (tableOk d) → b ≡ allOf 32 (jobOk d) → c ≡ allOf 256 (placeOk d) →
+    a ≡ allTo 32 (tableOk d) → b ≡ allTo 32 (jobOk d) → c ≡ allTo 256 (placeOk d) →
     r ≡ cond (eqb (d .running) 0) (eqb (d .ticks) 0) (leb (d .running) (d .tasks) && eqb u 1 && (leb 1 (d .ticks) && leb (d .ticks) n)) →
     u ≡ getD (d .unfinished) i 0 → i ≡ d .running - 1 → n ≡ dueTicks d (d .running) →
     (leb (d .tasks) 32 && a && b && c && r) ≡ tested d

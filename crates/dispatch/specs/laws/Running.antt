@@ -10,9 +10,9 @@ use lib.Dec.{eqb, eqb·suc-zero}
 use lib.ListN.{getD, set, length-set}
 use lib.Seq.{getD-set-same, getD-set-other, ext-getD}
 use Rattle.arrays.specs.Masks.{digit}
-use Rattle.arrays.specs.Places.{places}
+use Rattle.finite.specs.Finite.{listTo}
 use Rattle.arrays.specs.declared.rules.Due.{Due}
-use Rattle.arrays.specs.laws.Places.{getD-places, length-places}
+use Rattle.finite.specs.laws.Lists.{getD-list, length-list}
 use Rattle.dispatch.specs.Record.{recordOf}
 use Rattle.dispatch.specs.Start.{InTable}
 use Rattle.dispatch.specs.declared.Answer as code
@@ -25,29 +25,29 @@ use Rattle.promise.specs.Rules.{Answer, Outcome, State, after, answerBy, done, 
 use Rattle.promise.specs.laws.Remaining.{At, Proper, RunsAt, put-other, put-same}
 
 -- a list given place by place, set at one of them
-set-places : (f g : ℕ → ℕ) (j v : ℕ) → j < 32 → g j ≡ v → ((i : ℕ) → (i ≡ j → ⊥) → g i ≡ f i) → set (places 32 f) j v ≡ places 32 g
+set-places : (f g : ℕ → ℕ) (j v : ℕ) → j < 32 → g j ≡ v → ((i : ℕ) → (i ≡ j → ⊥) → g i ≡ f i) → set (listTo 32 f) j v ≡ listTo 32 g
 set-places f g j v l here there =
-    ext-getD 0 (set (places 32 f) j v) (places 32 g)
-    (length-set (places 32 f) j v ∙ length-places 32 f ∙ sym (length-places 32 g))
-    (λ i h. go i (omega (arith, length-set (places 32 f) j v, length-places 32 f)) (ℕ-discrete i j))
+    ext-getD 0 (set (listTo 32 f) j v) (listTo 32 g)
+    (length-set (listTo 32 f) j v ∙ length-list 32 f ∙ sym (length-list 32 g))
+    (λ i h. go i (omega (arith, length-set (listTo 32 f) j v, length-list 32 f)) (ℕ-discrete i j))
   where
-    go : (i : ℕ) → i < 32 → Dec (i ≡ j) → getD (set (places 32 f) j v) i 0 ≡ getD (places 32 g) i 0
+    go : (i : ℕ) → i < 32 → Dec (i ≡ j) → getD (set (listTo 32 f) j v) i 0 ≡ getD (listTo 32 g) i 0
     go i h (yes e) =
-        ap (λ z. getD (set (places 32 f) j v) z 0) e ∙ getD-set-same (places 32 f) j v 0 (omega (arith, length-places 32 f)) ∙ sym here ∙
-        sym (getD-places 32 g j 0 l) ∙ ap (λ z. getD (places 32 g) z 0) (sym e)
+        ap (λ z. getD (set (listTo 32 f) j v) z 0) e ∙ getD-set-same (listTo 32 f) j v 0 (omega (arith, length-list 32 f)) ∙ sym here ∙
+        sym (getD-list 32 g j 0 l) ∙ ap (λ z. getD (listTo 32 g) z 0) (sym e)
     go i h (no e) =
-        getD-set-other (places 32 f) j i v 0 e ∙ getD-places 32 f i 0 h ∙ sym (there i e) ∙ sym (getD-places 32 g i 0 h)
+        getD-set-other (listTo 32 f) j i v 0 e ∙ getD-list 32 f i 0 h ∙ sym (there i e) ∙ sym (getD-list 32 g i 0 h)
 
 -- set to v
-set-put : (f : ℕ → ℕ) (j v : ℕ) → j < 32 → set (places 32 f) j v ≡ places 32 (put f j v)
+set-put : (f : ℕ → ℕ) (j v : ℕ) → j < 32 → set (listTo 32 f) j v ≡ listTo 32 (put f j v)
 set-put f j v l = set-places f (put f j v) j v l (put-same f j v) (put-other f j v)
 
 -- set to what it holds
-set-own : (f : ℕ → ℕ) (j v : ℕ) → j < 32 → f j ≡ v → set (places 32 f) j v ≡ places 32 f
+set-own : (f : ℕ → ℕ) (j v : ℕ) → j < 32 → f j ≡ v → set (listTo 32 f) j v ≡ listTo 32 f
 set-own f j v l e = set-places f f j v l e (λ i n. refl)
 
 -- no job is unfinished at j
-set-false : (f : ℕ → Bool) (j : ℕ) → j < 32 → set (places 32 (λ i. digit (f i))) j 0 ≡ places 32 (λ i. digit (put f j false i))
+set-false : (f : ℕ → Bool) (j : ℕ) → j < 32 → set (listTo 32 (λ i. digit (f i))) j 0 ≡ listTo 32 (λ i. digit (put f j false i))
 set-false f j l =
     set-places (λ i. digit (f i)) (λ i. digit (put f j false i)) j 0 l (ap digit (put-same f j false)) (λ i n. ap digit (put-other f j false i n))
 
@@ -59,24 +59,24 @@ module _ (S : Tasks) (x : Choice) (table : InTable S x) (s : State) where
   due-is : (j : ℕ) → j < 32 → s .phase j - 1 < 8 → dueAt (recordOf S x s) (suc j) ≡ due j
   due-is j l k =
       let e : suc j - 1 ≡ j = omega arith in
-      let phase : getD (places 32 (s .phase)) (suc j - 1) 0 ≡ s .phase j = ap (λ z. getD (places 32 (s .phase)) z 0) e ∙ getD-places 32 (s .phase) j 0 l in
-      let piece : getD (places 32 (s .piece)) (suc j - 1) 0 ≡ s .piece j = ap (λ z. getD (places 32 (s .piece)) z 0) e ∙ getD-places 32 (s .piece) j 0 l in
-      let phases : getD (places 32 (S .m)) (suc j - 1) 0 ≡ S .m j = ap (λ z. getD (places 32 (S .m)) z 0) e ∙ getD-places 32 (S .m) j 0 l in
-      let p : 8 * (suc j - 1) + (getD (places 32 (s .phase)) (suc j - 1) 0 - 1) ≡ 8 * j + (s .phase j - 1) = ap₂ (λ y z. 8 * y + (z - 1)) e phase in
+      let phase : getD (listTo 32 (s .phase)) (suc j - 1) 0 ≡ s .phase j = ap (λ z. getD (listTo 32 (s .phase)) z 0) e ∙ getD-list 32 (s .phase) j 0 l in
+      let piece : getD (listTo 32 (s .piece)) (suc j - 1) 0 ≡ s .piece j = ap (λ z. getD (listTo 32 (s .piece)) z 0) e ∙ getD-list 32 (s .piece) j 0 l in
+      let phases : getD (listTo 32 (S .m)) (suc j - 1) 0 ≡ S .m j = ap (λ z. getD (listTo 32 (S .m)) z 0) e ∙ getD-list 32 (S .m) j 0 l in
+      let p : 8 * (suc j - 1) + (getD (listTo 32 (s .phase)) (suc j - 1) 0 - 1) ≡ 8 * j + (s .phase j - 1) = ap₂ (λ y z. 8 * y + (z - 1)) e phase in
       let q : (8 * j + (s .phase j - 1)) / 8 ≡ j = omega arith in
       let r : (8 * j + (s .phase j - 1)) % 8 ≡ s .phase j - 1 = omega arith in
-      let pieces : getD (places 256 (λ p. x (p / 8) (p % 8))) (8 * (suc j - 1) + (getD (places 32 (s .phase)) (suc j - 1) 0 - 1)) 0 ≡ x j (s .phase j - 1) =
-      ap (λ z. getD (places 256 (λ p. x (p / 8) (p % 8))) z 0) p ∙ getD-places 256 (λ p. x (p / 8) (p % 8)) (8 * j + (s .phase j - 1)) 0 (omega arith) ∙ ap₂ x q r in
+      let pieces : getD (listTo 256 (λ p. x (p / 8) (p % 8))) (8 * (suc j - 1) + (getD (listTo 32 (s .phase)) (suc j - 1) 0 - 1)) 0 ≡ x j (s .phase j - 1) =
+      ap (λ z. getD (listTo 256 (λ p. x (p / 8) (p % 8))) z 0) p ∙ getD-list 256 (λ p. x (p / 8) (p % 8)) (8 * j + (s .phase j - 1)) 0 (omega arith) ∙ ap₂ x q r in
       λ t. record { task = suc j; phase = phase t; piece = piece t; pieces = pieces t; phases = phases t }
 
   -- the arrays after the running piece of task j has ended, by whether a further piece and a further phase are due
   ended-is : (j : ℕ) → j < 32 → s .busy j ≡ true → (more next : Bool) →
       withJobs (recordOf S x s)
-      (places 32 (s .since))
-      (set (places 32 (λ i. digit (s .busy i))) j (cond (more || next) 1 0))
-      (set (places 32 (s .left)) j (cond (more || next) (s .left j) 0))
-      (set (places 32 (s .phase)) j (cond more (s .phase j) (cond next (s .phase j + 1) 0)))
-      (set (places 32 (s .piece)) j (cond more (s .piece j + 1) (cond next 1 0)))
+      (listTo 32 (s .since))
+      (set (listTo 32 (λ i. digit (s .busy i))) j (cond (more || next) 1 0))
+      (set (listTo 32 (s .left)) j (cond (more || next) (s .left j) 0))
+      (set (listTo 32 (s .phase)) j (cond more (s .phase j) (cond next (s .phase j + 1) 0)))
+      (set (listTo 32 (s .piece)) j (cond more (s .piece j + 1) (cond next 1 0)))
       0 0
       ≡ recordOf S x (after s j (cond more nextPiece (cond next nextPhase done)))
   ended-is j l b true next =
@@ -95,21 +95,21 @@ module _ (S : Tasks) (x : Choice) (table : InTable S x) (s : State) where
   unfolding pieceEnded
   piece-is j l b k =
       let e : suc j - 1 ≡ j = omega arith in
-      let left : getD (places 32 (s .left)) j 0 ≡ s .left j = getD-places 32 (s .left) j 0 l in
+      let left : getD (listTo 32 (s .left)) j 0 ≡ s .left j = getD-list 32 (s .left) j 0 l in
       (λ t.
       withJobs (recordOf S x s)
-      (places 32 (s .since))
-      (set (places 32 (λ i. digit (s .busy i))) (e t) (cond (goesOn (due-is j l k t)) 1 0))
-      (set (places 32 (s .left)) (e t) (cond (goesOn (due-is j l k t)) (getD (places 32 (s .left)) (e t) 0) 0))
-      (set (places 32 (s .phase)) (e t) (phaseAfter (due-is j l k t)))
-      (set (places 32 (s .piece)) (e t) (pieceAfter (due-is j l k t)))
+      (listTo 32 (s .since))
+      (set (listTo 32 (λ i. digit (s .busy i))) (e t) (cond (goesOn (due-is j l k t)) 1 0))
+      (set (listTo 32 (s .left)) (e t) (cond (goesOn (due-is j l k t)) (getD (listTo 32 (s .left)) (e t) 0) 0))
+      (set (listTo 32 (s .phase)) (e t) (phaseAfter (due-is j l k t)))
+      (set (listTo 32 (s .piece)) (e t) (pieceAfter (due-is j l k t)))
       0 0) ∙
       ap (λ v. withJobs (recordOf S x s)
-      (places 32 (s .since))
-      (set (places 32 (λ i. digit (s .busy i))) j (cond (goesOn (due j)) 1 0))
-      (set (places 32 (s .left)) j (cond (goesOn (due j)) v 0))
-      (set (places 32 (s .phase)) j (phaseAfter (due j)))
-      (set (places 32 (s .piece)) j (pieceAfter (due j)))
+      (listTo 32 (s .since))
+      (set (listTo 32 (λ i. digit (s .busy i))) j (cond (goesOn (due j)) 1 0))
+      (set (listTo 32 (s .left)) j (cond (goesOn (due j)) v 0))
+      (set (listTo 32 (s .phase)) j (phaseAfter (due j)))
+      (set (listTo 32 (s .piece)) j (pieceAfter (due j)))
       0 0) left ∙
       ended-is j l b (morePieces (due j)) (morePhases (due j))
 

@@ -9,9 +9,9 @@ use native.Mathlib.Omega.{arith}
 use lib.Dec.{leb, eqb}
 use lib.ListN.{length, getD, List·getD-eq-default}
 use Rattle.arrays.specs.Masks.{digit}
-use Rattle.arrays.specs.Places.{places}
+use Rattle.finite.specs.Finite.{listTo}
 use Rattle.arrays.specs.Rules.{pieceTicks}
-use Rattle.arrays.specs.laws.Places.{getD-places, length-places, places-alike, places-of}
+use Rattle.finite.specs.laws.Lists.{getD-list, length-list, list-alike, list-of}
 use Rattle.dispatch.specs.Record.{countsIn, recordOf, stateIn, tasksIn}
 use Rattle.dispatch.specs.Start.{InTable}
 use Rattle.dispatch.specs.declared.Dispatcher.{Dispatcher}
@@ -33,32 +33,32 @@ digit-of (suc zero) h = refl
 digit-of (suc (suc v)) h = absurd (omega arith)
 
 -- an array of 256, phase by phase
-phases-of : (a : List ℕ) → length a ≡ 256 → places 256 (λ p. phaseAt a (p / 8) (p % 8)) ≡ a
+phases-of : (a : List ℕ) → length a ≡ 256 → listTo 256 (λ p. phaseAt a (p / 8) (p % 8)) ≡ a
 phases-of a e =
-    places-alike 256 (λ p. phaseAt a (p / 8) (p % 8)) (λ p. getD a p 0)
+    list-alike 256 (λ p. phaseAt a (p / 8) (p % 8)) (λ p. getD a p 0)
     (λ p l. phase-place a p) ∙
-    places-of 256 a 0 e
+    list-of 256 a 0 e
 
-flags-of : (a : List ℕ) → length a ≡ 32 → ((i : ℕ) → getD a i 0 ≤ 1) → places 32 (λ i. digit (eqb (getD a i 0) 1)) ≡ a
+flags-of : (a : List ℕ) → length a ≡ 32 → ((i : ℕ) → getD a i 0 ≤ 1) → listTo 32 (λ i. digit (eqb (getD a i 0) 1)) ≡ a
 flags-of a e h =
-    places-alike 32 (λ i. digit (eqb (getD a i 0) 1)) (λ i. getD a i 0) (λ i l. digit-of (getD a i 0) (h i)) ∙ places-of 32 a 0 e
+    list-alike 32 (λ i. digit (eqb (getD a i 0) 1)) (λ i. getD a i 0) (λ i l. digit-of (getD a i 0) (h i)) ∙ list-of 32 a 0 e
 
 pub record-of-views : (d : Dispatcher) → Long d → ((i : ℕ) → getD (d .unfinished) i 0 ≤ 1) → recordOf (tasksIn d) (countsIn d) (stateIn d) ≡ d
 record-of-views d long binary =
     λ k.
     record {
       tasks = d .tasks;
-      spacing = places-of 32 (d .spacing) 0 (long .spacing) k;
-      deadline = places-of 32 (d .deadline) 0 (long .deadline) k;
-      phases = places-of 32 (d .phases) 0 (long .phases) k;
+      spacing = list-of 32 (d .spacing) 0 (long .spacing) k;
+      deadline = list-of 32 (d .deadline) 0 (long .deadline) k;
+      phases = list-of 32 (d .phases) 0 (long .phases) k;
       work = phases-of (d .work) (long .work) k;
       cost = phases-of (d .cost) (long .cost) k;
       counts = phases-of (d .counts) (long .counts) k;
-      since = places-of 32 (d .since) 0 (long .since) k;
+      since = list-of 32 (d .since) 0 (long .since) k;
       unfinished = flags-of (d .unfinished) (long .unfinished) binary k;
-      left = places-of 32 (d .left) 0 (long .left) k;
-      phase = places-of 32 (d .phase) 0 (long .phase) k;
-      piece = places-of 32 (d .piece) 0 (long .piece) k;
+      left = list-of 32 (d .left) 0 (long .left) k;
+      phase = list-of 32 (d .phase) 0 (long .phase) k;
+      piece = list-of 32 (d .piece) 0 (long .piece) k;
       running = d .running;
       ticks = d .ticks;
     }
@@ -66,26 +66,26 @@ record-of-views d long binary =
 -- ---- to the record and back
 
 -- a list given place by place has at every place what it was given, where that is 0 from its end on
-at-place : (n : ℕ) (f : ℕ → ℕ) (i : ℕ) → (n ≤ i → f i ≡ 0) → getD (places n f) i 0 ≡ f i
+at-place : (n : ℕ) (f : ℕ → ℕ) (i : ℕ) → (n ≤ i → f i ≡ 0) → getD (listTo n f) i 0 ≡ f i
 at-place n f i h = go (decLt i n)
   where
-    go : Dec (i < n) → getD (places n f) i 0 ≡ f i
-    go (yes l) = getD-places n f i 0 l
-    go (no l) = List·getD-eq-default (places n f) 0 (omega (arith, length-places n f)) ∙ sym (h (omega arith))
+    go : Dec (i < n) → getD (listTo n f) i 0 ≡ f i
+    go (yes l) = getD-list n f i 0 l
+    go (no l) = List·getD-eq-default (listTo n f) 0 (omega (arith, length-list n f)) ∙ sym (h (omega arith))
 
-at-phase : (f : ℕ → ℕ → ℕ) (i j : ℕ) → (32 ≤ i → f i j ≡ 0) → (8 ≤ j → f i j ≡ 0) → phaseAt (places 256 (λ p. f (p / 8) (p % 8))) i j ≡ f i j
+at-phase : (f : ℕ → ℕ → ℕ) (i j : ℕ) → (32 ≤ i → f i j ≡ 0) → (8 ≤ j → f i j ≡ 0) → phaseAt (listTo 256 (λ p. f (p / 8) (p % 8))) i j ≡ f i j
 at-phase f i j h g = go (decLt j 8)
   where
-    go : Dec (j < 8) → phaseAt (places 256 (λ p. f (p / 8) (p % 8))) i j ≡ f i j
+    go : Dec (j < 8) → phaseAt (listTo 256 (λ p. f (p / 8) (p % 8))) i j ≡ f i j
     go (yes l) =
         let q : (8 * i + j) / 8 ≡ i = omega arith in
         let r : (8 * i + j) % 8 ≡ j = omega arith in
         let e : f ((8 * i + j) / 8) ((8 * i + j) % 8) ≡ f i j = ap₂ f q r in
-        phase-at (places 256 (λ p. f (p / 8) (p % 8))) i j l ∙
+        phase-at (listTo 256 (λ p. f (p / 8) (p % 8))) i j l ∙
         at-place 256 (λ p. f (p / 8) (p % 8)) (8 * i + j) (λ k. e ∙ h (omega arith)) ∙ e
-    go (no l) = phase-none (places 256 (λ p. f (p / 8) (p % 8))) i j (omega arith) ∙ sym (g (omega arith))
+    go (no l) = phase-none (listTo 256 (λ p. f (p / 8) (p % 8))) i j (omega arith) ∙ sym (g (omega arith))
 
-flag-at : (f : ℕ → Bool) (i : ℕ) → (32 ≤ i → f i ≡ false) → eqb (getD (places 32 (λ i. digit (f i))) i 0) 1 ≡ f i
+flag-at : (f : ℕ → Bool) (i : ℕ) → (32 ≤ i → f i ≡ false) → eqb (getD (listTo 32 (λ i. digit (f i))) i 0) 1 ≡ f i
 flag-at f i h = ap (λ z. eqb z 1) (at-place 32 (λ i. digit (f i)) i (λ l. ap digit (h l))) ∙ read (f i)
   where
     read : (b : Bool) → eqb (digit b) 1 ≡ b
@@ -93,16 +93,16 @@ flag-at f i h = ap (λ z. eqb z 1) (at-place 32 (λ i. digit (f i)) i (λ l. ap 
     read false = refl
 
 -- the record has 0 or 1
-pub flags-binary : (f : ℕ → Bool) (i : ℕ) → getD (places 32 (λ i. digit (f i))) i 0 ≤ 1
+pub flags-binary : (f : ℕ → Bool) (i : ℕ) → getD (listTo 32 (λ i. digit (f i))) i 0 ≤ 1
 flags-binary f i = go (decLt i 32)
   where
     small : (b : Bool) → digit b ≤ 1
     small true = omega arith
     small false = omega arith
 
-    go : Dec (i < 32) → getD (places 32 (λ i. digit (f i))) i 0 ≤ 1
-    go (yes l) = omega (arith, getD-places 32 (λ i. digit (f i)) i 0 l, small (f i))
-    go (no l) = omega (arith, List·getD-eq-default (places 32 (λ i. digit (f i))) 0 {n = i} (omega (arith, length-places 32 (λ i. digit (f i)))))
+    go : Dec (i < 32) → getD (listTo 32 (λ i. digit (f i))) i 0 ≤ 1
+    go (yes l) = omega (arith, getD-list 32 (λ i. digit (f i)) i 0 l, small (f i))
+    go (no l) = omega (arith, List·getD-eq-default (listTo 32 (λ i. digit (f i))) 0 {n = i} (omega (arith, length-list 32 (λ i. digit (f i)))))
 
 module _ (S : Tasks) (x : Choice) (table : InTable S x) where
   -- beyond the tasks and the phases all is 0

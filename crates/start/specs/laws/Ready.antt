@@ -9,8 +9,8 @@ use borrow.Author.Tests.{le-ltb, lt-ltb}
 use lib.Dec.{ltb}
 use lib.ListN.{getD, length, replicate}
 use Rattle.arrays.specs.Masks.{digit}
-use Rattle.arrays.specs.Places.{places}
-use Rattle.arrays.specs.laws.Places.{places-alike, places-of}
+use Rattle.finite.specs.Finite.{listTo}
+use Rattle.finite.specs.laws.Lists.{list-alike, list-of}
 use Rattle.dispatch.specs.Start.{readyRecord}
 use Rattle.dispatch.specs.declared.Dispatcher.{Dispatcher}
 use Rattle.finite.specs.laws.Tests.{le-or-lt}
@@ -41,15 +41,15 @@ readyWith t xs = record {
 }
 
 -- an array of 256, phase by phase
-phases-of : (a : List ℕ) → length a ≡ 256 → places 256 (λ p. phaseAt a (p / 8) (p % 8)) ≡ a
-phases-of a e = places-alike 256 _ _ (λ p l. phase-place a p) ∙ places-of 256 a 0 e
+phases-of : (a : List ℕ) → length a ≡ 256 → listTo 256 (λ p. phaseAt a (p / 8) (p % 8)) ≡ a
+phases-of a e = list-alike 256 _ _ (λ p l. phase-place a p) ∙ list-of 256 a 0 e
 
-no-numbers : places {A = ℕ} 32 (λ i. 0) ≡ replicate 32 0
-unfolding places
+no-numbers : listTo {A = ℕ} 32 (λ i. 0) ≡ replicate 32 0
+unfolding listTo
 no-numbers = refl
 
-no-flags : places 32 (λ i. digit false) ≡ replicate 32 0
-unfolding places
+no-flags : listTo 32 (λ i. digit false) ≡ replicate 32 0
+unfolding listTo
 no-flags = refl
 
 and-false : (b : Bool) → (b && false) ≡ false
@@ -75,13 +75,13 @@ module _ (t : Table) (valid : Valid t) (xs : List ℕ) (wide : length xs ≡ 256
       λ k.
       record {
         tasks = t .tasks;
-        spacing = places-of 32 (t .spacing) 0 (valid .lengths .spacings) k;
-        deadline = places-of 32 (t .deadline) 0 (valid .lengths .deadlines) k;
-        phases = places-of 32 (t .phases) 0 (valid .lengths .phases) k;
+        spacing = list-of 32 (t .spacing) 0 (valid .lengths .spacings) k;
+        deadline = list-of 32 (t .deadline) 0 (valid .lengths .deadlines) k;
+        phases = list-of 32 (t .phases) 0 (valid .lengths .phases) k;
         work = phases-of (t .work) (valid .lengths .works) k;
         cost = phases-of (t .cost) (valid .lengths .costs) k;
         counts = counts k;
-        since = places-of 32 (t .spacing) 0 (valid .lengths .spacings) k;
+        since = list-of 32 (t .spacing) 0 (valid .lengths .spacings) k;
         unfinished = no-flags k;
         left = no-numbers k;
         phase = no-numbers k;
@@ -90,5 +90,5 @@ module _ (t : Table) (valid : Valid t) (xs : List ℕ) (wide : length xs ≡ 256
         ticks = 0;
       }
     where
-      counts : places 256 (λ p. used (tasksOf t) (phaseAt xs) (p / 8) (p % 8)) ≡ xs
-      counts = places-alike 256 _ _ (λ p l. used-is p) ∙ places-of 256 xs 0 wide
+      counts : listTo 256 (λ p. used (tasksOf t) (phaseAt xs) (p / 8) (p % 8)) ≡ xs
+      counts = list-alike 256 _ _ (λ p l. used-is p) ∙ list-of 256 xs 0 wide

@@ -2,21 +2,21 @@
 use mathlib.Core.Path.{_≡_, _∙_}
 use Prim.Native.Nat.{_-_, _≤_}
 use native.Mathlib.Omega.{arith}
-use Rattle.arrays.specs.Places.{allOf}
+use Rattle.finite.specs.Finite.{allTo}
 use Rattle.arrays.specs.Ranges.{jobAt}
-use Rattle.arrays.specs.laws.Places.{allOf-none, allOf-more}
+use Rattle.finite.specs.laws.Lists.{all-none, all-more}
 use borrow.Author.Needs.{needs}
 use Rattle.arrays.proofs.ranges.jobs_in.Statement.{statement}
 use Rattle.arrays.proofs.ranges.jobs_in.Tie as tie
 
 abbrev Inv-loop : tie.InvT-loop
-Inv-loop deadline phases counts unfinished left phase piece ok₀ i₀ ok i = (i ≤ 32) × (ok ≡ allOf i (jobAt deadline phases counts unfinished left phase piece))
+Inv-loop deadline phases counts unfinished left phase piece ok₀ i₀ ok i = (i ≤ 32) × (ok ≡ allTo i (jobAt deadline phases counts unfinished left phase piece))
 
 abbrev μ-loop : tie.MeasureT-loop
 μ-loop deadline phases counts unfinished left phase piece ok₀ i₀ ok i = 32 - i
 
 loop-holds : tie.Need-loop-holds Inv-loop μ-loop
-loop-holds c = (search needs, allOf-none _)
+loop-holds c = (search needs, all-none _)
 
 mul-j : tie.Need-mul-j Inv-loop μ-loop
 mul-j c = search needs
@@ -79,7 +79,7 @@ loop-less : tie.Need-loop-less Inv-loop μ-loop
 loop-less c = search needs
 
 loop-again : tie.Need-loop-again Inv-loop μ-loop
-loop-again c = (search needs, allOf-more _ _ _ _ (c .before .before .before .before .before .before .before .before .before .before .before .loop .inv .1) (rw (c .job-in .ensures, c .before .before .before .before .before .before .at256 .ensures, c .before .before .before .before .before .before .before .index .ensures .0, c .before .before .before .before .before .before .before .before .down .ensures)))
+loop-again c = (search needs, all-more _ _ _ _ (c .before .before .before .before .before .before .before .before .before .before .before .loop .inv .1) (rw (c .job-in .ensures, c .before .before .before .before .before .before .at256 .ensures, c .before .before .before .before .before .before .before .index .ensures .0, c .before .before .before .before .before .before .before .before .down .ensures)))
 
 returns : tie.Need-returns Inv-loop μ-loop
 returns c =

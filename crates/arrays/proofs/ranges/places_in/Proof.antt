@@ -2,21 +2,21 @@
 use mathlib.Core.Path.{_≡_, _∙_}
 use Prim.Native.Nat.{_-_, _≤_}
 use native.Mathlib.Omega.{arith}
-use Rattle.arrays.specs.Places.{allOf}
+use Rattle.finite.specs.Finite.{allTo}
 use Rattle.arrays.specs.Ranges.{placeIn}
-use Rattle.arrays.specs.laws.Places.{allOf-none, allOf-more}
+use Rattle.finite.specs.laws.Lists.{all-none, all-more}
 use borrow.Author.Needs.{needs}
 use Rattle.arrays.proofs.ranges.places_in.Statement.{statement}
 use Rattle.arrays.proofs.ranges.places_in.Tie as tie
 
 abbrev Inv-loop : tie.InvT-loop
-Inv-loop phases work cost counts ok₀ p₀ ok p = (p ≤ 256) × (ok ≡ allOf p (placeIn phases work cost counts))
+Inv-loop phases work cost counts ok₀ p₀ ok p = (p ≤ 256) × (ok ≡ allTo p (placeIn phases work cost counts))
 
 abbrev μ-loop : tie.MeasureT-loop
 μ-loop phases work cost counts ok₀ p₀ ok p = 256 - p
 
 loop-holds : tie.Need-loop-holds Inv-loop μ-loop
-loop-holds c = (search needs, allOf-none _)
+loop-holds c = (search needs, all-none _)
 
 mul-m : tie.Need-mul-m Inv-loop μ-loop
 mul-m c = search needs
@@ -55,7 +55,7 @@ loop-less : tie.Need-loop-less Inv-loop μ-loop
 loop-less c = search needs
 
 loop-again : tie.Need-loop-again Inv-loop μ-loop
-loop-again c = (search needs, allOf-more _ _ _ _ (c .before .before .before .before .before .before .loop .inv .1) (rw (c .phase-in .ensures)))
+loop-again c = (search needs, all-more _ _ _ _ (c .before .before .before .before .before .before .loop .inv .1) (rw (c .phase-in .ensures)))
 
 returns : tie.Need-returns Inv-loop μ-loop
 returns c =

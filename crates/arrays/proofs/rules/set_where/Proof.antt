@@ -5,7 +5,7 @@ use Prim.Native.Nat.{_-_, _≤_}
 use native.Mathlib.Omega.{arith}
 use lib.ListN.{length, getD}
 use Rattle.arrays.specs.Masks.{bit}
-use Rattle.arrays.specs.laws.Places.{filled, filled-none, filled-more, filled-read, filled-end}
+use Rattle.finite.specs.laws.Lists.{filled, filled-none, filled-more, filled-read, filled-end}
 use borrow.Author.Needs.{needs}
 use Rattle.arrays.proofs.rules.set_where.Statement.{statement}
 use Rattle.arrays.proofs.rules.set_where.Tie as tie

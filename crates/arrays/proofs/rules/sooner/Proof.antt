@@ -3,7 +3,7 @@ use mathlib.Core.Path.{_≡_}
 use Prim.Native.Nat.{_-_, _≤_}
 use native.Mathlib.Omega.{arith}
 use lib.ListN.{length, getD}
-use Rattle.arrays.specs.laws.Places.{filled, filled-none, filled-more, filled-read, filled-end}
+use Rattle.finite.specs.laws.Lists.{filled, filled-none, filled-more, filled-read, filled-end}
 use borrow.Author.Needs.{needs}
 use Rattle.arrays.proofs.rules.sooner.Statement.{statement}
 use Rattle.arrays.proofs.rules.sooner.Tie as tie

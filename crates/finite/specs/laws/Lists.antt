@@ -10,7 +10,7 @@ use native.Mathlib.Numerals.{add-one}
 use native.Mathlib.Omega.{arith}
 use lib.ListN.{length, getD, set, length-set, length-append, List·getD-append}
 use lib.Seq.{getD-set-same, getD-set-other, getD-at, ext-getD}
-use Rattle.arrays.specs.Places.{places, allOf}
+use Rattle.finite.specs.Finite.{allTo, listTo}
 
 -- an index below n + 1 is n or below n
 pub last-or-below : {k n : ℕ} → k < suc n → (k ≡ n) ⊎ (k < n)
@@ -22,18 +22,18 @@ module _ {A : Type 0} where
   filled zero f a = a
   filled (suc i) f a = set (filled i f a) i (f i)
 
-  pub length-places : (n : ℕ) (f : ℕ → A) → length (places n f) ≡ n
-  unfolding places
-  length-places zero f = refl
-  length-places (suc n) f = length-append (places n f) (f n ∷ []) ∙ omega (arith, length-places n f)
+  pub length-list : (n : ℕ) (f : ℕ → A) → length (listTo n f) ≡ n
+  unfolding listTo
+  length-list zero f = refl
+  length-list (suc n) f = length-append (listTo n f) (f n ∷ []) ∙ omega (arith, length-list n f)
 
-  pub getD-places : (n : ℕ) (f : ℕ → A) (k : ℕ) (d : A) → k < n → getD (places n f) k d ≡ f k
-  unfolding places
-  getD-places zero f k d h = absurd (omega arith)
-  getD-places (suc n) f k d h =
+  pub getD-list : (n : ℕ) (f : ℕ → A) (k : ℕ) (d : A) → k < n → getD (listTo n f) k d ≡ f k
+  unfolding listTo
+  getD-list zero f k d h = absurd (omega arith)
+  getD-list (suc n) f k d h =
       ⊎-elim
-      (λ e. getD-at (places n f) (f n) [] d k (length-places n f ∙ sym e) ∙ ap f (sym e))
-      (λ l. List·getD-append (places n f) (f n ∷ []) d k (omega (arith, length-places n f)) ∙ getD-places n f k d l)
+      (λ e. getD-at (listTo n f) (f n) [] d k (length-list n f ∙ sym e) ∙ ap f (sym e))
+      (λ l. List·getD-append (listTo n f) (f n ∷ []) d k (omega (arith, length-list n f)) ∙ getD-list n f k d l)
       (last-or-below h)
 
   pub length-filled : (i : ℕ) (f : ℕ → A) (a : List A) → length (filled i f a) ≡ length a
@@ -57,13 +57,13 @@ module _ {A : Type 0} where
       (last-or-below h)
 
   -- a list as long as what was filled in is that
-  pub filled-all : (n : ℕ) (f : ℕ → A) (a : List A) (d : A) → length a ≡ n → filled n f a ≡ places n f
+  pub filled-all : (n : ℕ) (f : ℕ → A) (a : List A) (d : A) → length a ≡ n → filled n f a ≡ listTo n f
   filled-all n f a d e =
-      ext-getD d (filled n f a) (places n f)
-      (length-filled n f a ∙ e ∙ sym (length-places n f))
+      ext-getD d (filled n f a) (listTo n f)
+      (length-filled n f a ∙ e ∙ sym (length-list n f))
       (λ i h.
       let l : i < n = omega (arith, length-filled n f a) in
-      filled-done n f a i d l (omega arith) ∙ sym (getD-places n f i d l))
+      filled-done n f a i d l (omega arith) ∙ sym (getD-list n f i d l))
 
   -- one turn of a loop that fills
   pub filled-more : (i : ℕ) (f : ℕ → A) (a b : List A) (v : A) → b ≡ filled i f a → v ≡ f i → set b i v ≡ filled (i + 1) f a
@@ -79,28 +79,28 @@ module _ {A : Type 0} where
   filled-none f a = refl
 
   -- the end of a loop that fills
-  pub filled-end : (i n : ℕ) (f : ℕ → A) (a b : List A) (d : A) → i ≡ n → b ≡ filled i f a → length a ≡ n → b ≡ places n f
+  pub filled-end : (i n : ℕ) (f : ℕ → A) (a b : List A) (d : A) → i ≡ n → b ≡ filled i f a → length a ≡ n → b ≡ listTo n f
   filled-end i n f a b d e g l = g ∙ ap (λ (k : ℕ). filled k f a) e ∙ filled-all n f a d l
 
   -- two lists given alike place by place
-  pub places-alike : (n : ℕ) (f g : ℕ → A) → ((k : ℕ) → k < n → f k ≡ g k) → places n f ≡ places n g
-  unfolding places
-  places-alike zero f g h = refl
-  places-alike (suc n) f g h = rw (places-alike n f g (λ k l. h k (omega arith)), h n (omega arith))
+  pub list-alike : (n : ℕ) (f g : ℕ → A) → ((k : ℕ) → k < n → f k ≡ g k) → listTo n f ≡ listTo n g
+  unfolding listTo
+  list-alike zero f g h = refl
+  list-alike (suc n) f g h = rw (list-alike n f g (λ k l. h k (omega arith)), h n (omega arith))
 
   -- a list is given by its own places
-  pub places-of : (n : ℕ) (a : List A) (d : A) → length a ≡ n → places n (λ k. getD a k d) ≡ a
-  places-of n a d e =
-      ext-getD d (places n (λ k. getD a k d)) a
-      (length-places n (λ k. getD a k d) ∙ sym e)
-      (λ i h. getD-places n (λ k. getD a k d) i d (omega (arith, length-places n (λ k. getD a k d))))
+  pub list-of : (n : ℕ) (a : List A) (d : A) → length a ≡ n → listTo n (λ k. getD a k d) ≡ a
+  list-of n a d e =
+      ext-getD d (listTo n (λ k. getD a k d)) a
+      (length-list n (λ k. getD a k d) ∙ sym e)
+      (λ i h. getD-list n (λ k. getD a k d) i d (omega (arith, length-list n (λ k. getD a k d))))
 
 -- ---- a loop that tests every place
 
-pub allOf-none : (p : ℕ → Bool) → true ≡ allOf 0 p
-unfolding allOf
-allOf-none p = refl
+pub all-none : (p : ℕ → Bool) → true ≡ allTo 0 p
+unfolding allTo
+all-none p = refl
 
-pub allOf-more : (i : ℕ) (p : ℕ → Bool) (b v : Bool) → b ≡ allOf i p → v ≡ (b && p i) → v ≡ allOf (i + 1) p
-unfolding allOf
-allOf-more i p b v e f = f ∙ rw (add-one, e)
+pub all-more : (i : ℕ) (p : ℕ → Bool) (b v : Bool) → b ≡ allTo i p → v ≡ (b && p i) → v ≡ allTo (i + 1) p
+unfolding allTo
+all-more i p b v e f = f ∙ rw (add-one, e)

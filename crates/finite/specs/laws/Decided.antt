@@ -6,9 +6,8 @@ use Prim.Native.Nat.{ℕ, zero, suc, _≤_, _<_}
 use native.Mathlib.Decide.{ℕ-discrete}
 use native.Mathlib.Omega.{arith}
 use lib.Dec.{leb}
-use Rattle.arrays.specs.Places.{allOf}
-use Rattle.finite.specs.Finite.{Below}
+use Rattle.finite.specs.Finite.{Below, allTo}
 use Rattle.finite.specs.laws.Tests.{Decides, and-both, and-decides, leb-decides}
 
 -- the same said otherwise
 pub restated : {b : Bool} {P Q : Type 0} → (P → Q) → (Q → P) → Decides b P → Decides b Q
@@ -30,21 +29,21 @@ test-cases false e p q = (λ h. (λ x. absurd (true≢false (sym (e .1 x))), λ 
 pub by-test : {a b c : Bool} {E P Q : Type 0} → Decides a E → Decides b P → Decides c Q → Decides (cond a b c) ((E → P) × (¬ E → Q))
 by-test {a} e p q = test-cases a e p q
 
-all-each : (n : ℕ) (p : ℕ → Bool) → allOf n p ≡ true → (i : ℕ) → i < n → p i ≡ true
-unfolding allOf
+all-each : (n : ℕ) (p : ℕ → Bool) → allTo n p ≡ true → (i : ℕ) → i < n → p i ≡ true
+unfolding allTo
 all-each zero p e i l = absurd (omega arith)
-all-each (suc n) p e i l = go (ℕ-discrete i n) (all-each n p (and-both (allOf n p) (p n) e .0) i)
+all-each (suc n) p e i l = go (ℕ-discrete i n) (all-each n p (and-both (allTo n p) (p n) e .0) i)
   where
     go : Dec (i ≡ n) → (i < n → p i ≡ true) → p i ≡ true
-    go (yes q) ih = ap p q ∙ and-both (allOf n p) (p n) e .1
+    go (yes q) ih = ap p q ∙ and-both (allTo n p) (p n) e .1
     go (no q) ih = ih (omega arith)
 
-all : (n : ℕ) (p : ℕ → Bool) → ((i : ℕ) → i < n → p i ≡ true) → allOf n p ≡ true
-unfolding allOf
+all : (n : ℕ) (p : ℕ → Bool) → ((i : ℕ) → i < n → p i ≡ true) → allTo n p ≡ true
+unfolding allTo
 all zero p h = refl
 all (suc n) p h = rw (all n p (λ i l. h i (omega arith))) (h n (omega arith))
 
-pub every : (n : ℕ) (p : ℕ → Bool) (P : ℕ → Type 0) → ((i : ℕ) → Decides (p i) (P i)) → Decides (allOf n p) (Below n P)
+pub every : (n : ℕ) (p : ℕ → Bool) (P : ℕ → Type 0) → ((i : ℕ) → Decides (p i) (P i)) → Decides (allTo n p) (Below n P)
 every n p P d = (λ e i l. d i .0 (all-each n p e i l), λ f. all n p (λ i l. d i .1 (f i l)))
 
 -- two tests that decide the same are one
