@@ -1,9 +1,5 @@
 pub mod ArrayRules
 pub mod ArraySteps
-pub mod Fields
-pub mod Views
-pub mod Ranging
-pub mod InRange
 pub mod Moves
 pub mod Running
 pub mod Empty

@@ -6,7 +6,7 @@ use Prim.Native.Nat.{ℕ}
 use Rattle.answer.specs.declared.Outcome as answer
 use Rattle.answer.specs.declared.Outcome.the-variants.{Answered, TurnedAway}
 use Rattle.edf.specs.Judge as edf
-use Rattle.dispatch.specs.declared.Dispatcher.{Dispatcher}
+use Rattle.records.specs.declared.Dispatcher.{Dispatcher}
 use Rattle.start.specs.Start as start
 use Rattle.start.specs.declared.How.{How}
 use Rattle.start.specs.declared.How.the-variants.{Ready, Refused, TurnedAway as Unread}

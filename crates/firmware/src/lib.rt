@@ -1,6 +1,6 @@
 // The C interface: each export is thin, and repeats the promise of the call that it wraps. include/clinkerbell.h declares it for C.
 use dispatch::Answer;
-use dispatch::Dispatcher;
+use records::Dispatcher;
 ghost use mathlib.Core.Path.{_≡_};
 ghost use Rattle.dispatch.specs.Tick.{Ticks};
 ghost use Rattle.firmware.specs.Interface.{Judges, toldOf, Starts, begunOf, unrefused};

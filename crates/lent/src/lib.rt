@@ -1,8 +1,8 @@
 // The thin calls over references: the demand at t of a lent slice of task structs, and a lent record moved forward by a tick.
 // Each takes a struct out of the reference, passes it by value, and puts back what it is given.
 use dispatch::Answer;
-use dispatch::Dispatcher;
 use dispatch::Ticked;
+use records::Dispatcher;
 ghost use mathlib.Core.Path.{_≡_};
 ghost use Prim.Native.Nat.{_+_, _*_, _/_};
 ghost use Rattle.dispatch.specs.Tick.{Ticks};
@@ -91,7 +91,7 @@ pub fn demand_of(tasks: [TaskLoad; 32], t: u64) -> Demand
 pub fn advance(dispatcher: &mut Dispatcher, mask: u32, flag: bool) -> Answer
     ensures { λ r. ⌜ Ticks (now (dispatcher .entry)) mask flag (now (dispatcher .exit)) r ⌝ }
 {
-    let t = Dispatcher::tick(*dispatcher, mask, flag);
+    let t = dispatch::tick(*dispatcher, mask, flag);
     *dispatcher = t.next;
     t.answer
 }

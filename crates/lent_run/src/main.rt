@@ -1,10 +1,10 @@
 // Runs the thin calls over references: the demand of table A of document 01 at some lengths, demands at the edge of 64 bits, and the worked
 // run of table A on a record that is lent for each tick.
 use dispatch::Answer;
-use dispatch::Dispatcher;
 use lent::Demand;
 use lent::TaskLoad;
 use libc::STDOUT_FILENO;
+use records::Dispatcher;
 
 // A line: the length t and the demand there, or the word that it does not fit.
 fn print_demand(t: u64, d: Demand) {

@@ -4,10 +4,10 @@ use mathlib.Core.Path.{_≡_}
 use mathlib.Core.Bool.{Bool}
 use mathlib.Core.List.{List}
 use Prim.Native.Nat.{ℕ, suc}
-use Rattle.dispatch.specs.Record.{requestOf}
+use Rattle.records.specs.Record.{requestOf}
 use Rattle.dispatch.specs.Tick.{Ticks, answerIn}
 use Rattle.dispatch.specs.declared.Answer.{Answer}
-use Rattle.dispatch.specs.declared.Dispatcher.{Dispatcher}
+use Rattle.records.specs.declared.Dispatcher.{Dispatcher}
 use Rattle.model.specs.Phase.{Choice, plain}
 use Rattle.model.specs.Works.{Least, Works}
 use Rattle.promise.specs.Promise.{Kept}

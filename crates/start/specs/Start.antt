@@ -6,8 +6,8 @@ use mathlib.Core.Bool.{_&&_}
 use mathlib.Core.List.{List}
 use Prim.Native.Nat.{ℕ}
 use lib.Dec.{ltb}
-use Rattle.dispatch.specs.Record.{emptyRecord}
-use Rattle.dispatch.specs.Start.{readyRecord}
+use Rattle.records.specs.Record.{emptyRecord}
+use Rattle.records.specs.Start.{readyRecord}
 use Rattle.finite.specs.If.{if_then_else_}
 use Rattle.model.specs.Phase.{Choice, plain}
 use Rattle.model.specs.Tasks.{Tasks}

@@ -1,5 +1,5 @@
 // Starting the dispatcher on the bytes of a table.
-use dispatch::Dispatcher;
+use records::Dispatcher;
 use table::Table;
 use walk::judge::Judged;
 ghost use mathlib.Core.Path.{_≡_};

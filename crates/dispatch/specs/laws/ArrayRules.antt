@@ -10,10 +10,11 @@ use lib.ListN.{getD, set}
 use lib.Count.{ones}
 use Rattle.arrays.specs.Masks.{maskOf}
 use Rattle.finite.specs.Finite.{listTo}
-use Rattle.arrays.specs.Rules.{letsIn, urgentOf, ticksOf, dueOf}
+use Rattle.arrays.specs.Rules.{letsIn, urgentOf, dueOf}
+use Rattle.records.specs.laws.Views.{dueTicks}
 use Rattle.arrays.specs.declared.rules.Due.{Due}
 use Rattle.dispatch.specs.declared.Answer.{Answer}
-use Rattle.dispatch.specs.declared.Dispatcher.{Dispatcher}
+use Rattle.records.specs.declared.Dispatcher.{Dispatcher}
 
 -- the same table with other jobs, running task and ticks left of its piece
 abbrev pub withJobs : Dispatcher → List ℕ → List ℕ → List ℕ → List ℕ → List ℕ → ℕ → ℕ → Dispatcher
@@ -57,9 +58,6 @@ admittedTo d mask =
 
 abbrev pub mostUrgent : Dispatcher → ℕ → ℕ
 mostUrgent d n = urgentOf (d .unfinished) (d .left) n
-
-abbrev pub dueTicks : Dispatcher → ℕ → ℕ
-dueTicks d t = ticksOf (d .phase) (d .piece) (d .work) (d .cost) (d .counts) t
 
 abbrev pub startedWith : Dispatcher → ℕ → Dispatcher
 startedWith d t = cond (eqb t 0) d (withRun d t (dueTicks d t))

@@ -14,8 +14,9 @@ use Rattle.arrays.specs.Rules.{urgentOf, ticksOf, dueOf}
 use Rattle.arrays.specs.declared.rules.Due.{Due}
 use Rattle.arrays.specs.laws.Masks.{by-bits, asked-split}
 use Rattle.dispatch.specs.declared.Answer.{Answer}
-use Rattle.dispatch.specs.declared.Dispatcher.{Dispatcher}
-use Rattle.dispatch.specs.laws.ArrayRules.{Steps, admits, admittedTo, answerWith, begun, dueAt, dueTicks, elapsed, goesOn, mostUrgent, phaseAfter, picked, pieceAfter, pieceEnded, pieceEnds, ran, startedWith, usedUp, withJobs, withRun}
+use Rattle.records.specs.declared.Dispatcher.{Dispatcher}
+use Rattle.dispatch.specs.laws.ArrayRules.{Steps, admits, admittedTo, answerWith, begun, dueAt, elapsed, goesOn, mostUrgent, phaseAfter, picked, pieceAfter, pieceEnded, pieceEnds, ran, startedWith, usedUp, withJobs, withRun}
+use Rattle.records.specs.laws.Views.{dueTicks}
 
 -- ---- 1
 

@@ -13,15 +13,15 @@ use Rattle.finite.specs.Finite.{allTo, listTo}
 use Rattle.arrays.specs.Rules.{urgentOf}
 use Rattle.arrays.specs.laws.Masks.{maskOf-alike}
 use Rattle.finite.specs.laws.Lists.{list-alike, list-of}
-use Rattle.dispatch.specs.Ranges.{inRange}
-use Rattle.dispatch.specs.Record.{countsIn, emptyRecord, stateIn, tasksIn}
+use Rattle.records.specs.Ranges.{inRange}
+use Rattle.records.specs.Record.{countsIn, emptyRecord, stateIn, tasksIn}
 use Rattle.dispatch.specs.declared.Answer.{Answer}
-use Rattle.dispatch.specs.declared.Dispatcher.{Dispatcher}
+use Rattle.records.specs.declared.Dispatcher.{Dispatcher}
 use Rattle.dispatch.specs.laws.ArrayRules.{Steps, admits, admittedTo, answerWith, begun, dueAt, elapsed, picked, pieceEnds, ran}
-use Rattle.dispatch.specs.laws.Fields.{Fields, Long}
-use Rattle.dispatch.specs.laws.InRange.{range-fields}
+use Rattle.records.specs.laws.Fields.{Fields, Long}
+use Rattle.records.specs.laws.InRange.{range-fields}
 use Rattle.dispatch.specs.laws.Moves.{jobs-alike}
-use Rattle.dispatch.specs.laws.Views.{record-of-views}
+use Rattle.records.specs.laws.Views.{record-of-views}
 use Rattle.model.specs.Phase.{Choice}
 use Rattle.model.specs.Tasks.{Tasks}
 use Rattle.promise.specs.Rules.{State}

@@ -7,21 +7,21 @@ use native.Mathlib.Omega.{arith}
 use lib.Count.{ones}
 use Rattle.arrays.specs.Masks.{bit, countOf, maskOf}
 use Rattle.arrays.specs.laws.Masks.{maskOf-alike, ones-maskOf}
-use Rattle.dispatch.specs.Ranges.{inRange, usable}
-use Rattle.dispatch.specs.Record.{countsIn, emptyRecord, recordOf, requestOf, stateIn, tasksIn}
-use Rattle.dispatch.specs.Start.{InTable}
+use Rattle.records.specs.Ranges.{inRange, usable}
+use Rattle.records.specs.Record.{countsIn, emptyRecord, recordOf, requestOf, stateIn, tasksIn}
+use Rattle.records.specs.Start.{InTable}
 use Rattle.dispatch.specs.Tick.{Ticks, answerFor, recordAfter, rulesAnswer}
 use Rattle.dispatch.specs.declared.Answer as code
-use Rattle.dispatch.specs.declared.Dispatcher.{Dispatcher}
+use Rattle.records.specs.declared.Dispatcher.{Dispatcher}
 use Rattle.dispatch.specs.laws.ArrayRules.{Steps, admits, answerWith, begun, dueAt, elapsed, picked, pieceEnds, ran}
 use Rattle.dispatch.specs.laws.ArraySteps.{admits-split}
 use Rattle.dispatch.specs.laws.Empty.{empty-in-range, empty-long, empty-steps, nothing}
-use Rattle.dispatch.specs.laws.Fields.{Fields, Long}
-use Rattle.dispatch.specs.laws.InRange.{range-fields, tested-is}
+use Rattle.records.specs.laws.Fields.{Fields, Long}
+use Rattle.records.specs.laws.InRange.{range-fields, tested-is}
 use Rattle.dispatch.specs.laws.Moves.{admission, admits-is, elapses, picking}
-use Rattle.dispatch.specs.laws.Ranging.{tested}
+use Rattle.records.specs.laws.Ranging.{tested}
 use Rattle.dispatch.specs.laws.Running.{answering, running}
-use Rattle.dispatch.specs.laws.Views.{record-of-views}
+use Rattle.records.specs.laws.Views.{record-of-views}
 use Rattle.finite.specs.Finite.{Below}
 use Rattle.finite.specs.laws.Tests.{cond-false, cond-true}
 use Rattle.model.specs.Phase.{Choice}

@@ -12,11 +12,12 @@ use Rattle.arrays.specs.Masks.{bit, digit}
 use Rattle.finite.specs.Finite.{listTo}
 use Rattle.arrays.specs.Rules.{goesBefore, urgentOf}
 use Rattle.finite.specs.laws.Lists.{getD-list, list-alike}
-use Rattle.dispatch.specs.Record.{countsIn, recordOf, tasksIn}
-use Rattle.dispatch.specs.Start.{InTable}
-use Rattle.dispatch.specs.declared.Dispatcher.{Dispatcher}
-use Rattle.dispatch.specs.laws.ArrayRules.{admits, admittedTo, dueTicks, elapsed, mostUrgent, picked, startedWith, withJobs, withRun}
-use Rattle.dispatch.specs.laws.Views.{counts-of-record, due-of-views, tasks-of-record}
+use Rattle.records.specs.Record.{countsIn, recordOf, tasksIn}
+use Rattle.records.specs.Start.{InTable}
+use Rattle.records.specs.declared.Dispatcher.{Dispatcher}
+use Rattle.dispatch.specs.laws.ArrayRules.{admits, admittedTo, elapsed, mostUrgent, picked, startedWith, withJobs, withRun}
+use Rattle.records.specs.laws.Views.{dueTicks}
+use Rattle.records.specs.laws.Views.{counts-of-record, due-of-views, tasks-of-record}
 use Rattle.finite.specs.laws.Tests.{cond-false}
 use Rattle.model.specs.Phase.{Choice}
 use Rattle.model.specs.Tasks.{Tasks}

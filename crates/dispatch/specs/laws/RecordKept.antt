@@ -10,15 +10,15 @@ use lib.Dec.{eqb}
 use borrow.Author.Tests.{le-ltb}
 use Rattle.arrays.specs.Masks.{bit, maskOf}
 use Rattle.arrays.specs.laws.Masks.{bit-maskOf, maskOf-lt}
-use Rattle.dispatch.specs.Ranges.{inRange, usable}
-use Rattle.dispatch.specs.Record.{countsIn, emptyRecord, recordOf, requestOf, stateIn, tasksIn}
-use Rattle.dispatch.specs.Start.{InTable, Ready, readyRecord}
+use Rattle.records.specs.Ranges.{inRange, usable}
+use Rattle.records.specs.Record.{countsIn, emptyRecord, recordOf, requestOf, stateIn, tasksIn}
+use Rattle.records.specs.Start.{InTable, Ready, readyRecord}
 use Rattle.dispatch.specs.Tick.{Ticks, answerFor, answerIn, recordAfter, rulesAnswer}
 use Rattle.dispatch.specs.declared.Answer as code
-use Rattle.dispatch.specs.declared.Dispatcher.{Dispatcher}
+use Rattle.records.specs.declared.Dispatcher.{Dispatcher}
 use Rattle.dispatch.specs.laws.Follows.{table-ranged}
-use Rattle.dispatch.specs.laws.InRange.{fields-range}
-use Rattle.dispatch.specs.laws.Views.{counts-of-record, flags-binary, state-of-record, tasks-of-record}
+use Rattle.records.specs.laws.InRange.{fields-range}
+use Rattle.records.specs.laws.Views.{counts-of-record, flags-binary, state-of-record, tasks-of-record}
 use Rattle.finite.specs.laws.Tests.{cond-true}
 use Rattle.model.specs.Phase.{Choice}
 use Rattle.model.specs.Tasks.{Sane, Tasks}

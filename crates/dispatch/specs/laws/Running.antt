@@ -13,8 +13,8 @@ use Rattle.arrays.specs.Masks.{digit}
 use Rattle.finite.specs.Finite.{listTo}
 use Rattle.arrays.specs.declared.rules.Due.{Due}
 use Rattle.finite.specs.laws.Lists.{getD-list, length-list}
-use Rattle.dispatch.specs.Record.{recordOf}
-use Rattle.dispatch.specs.Start.{InTable}
+use Rattle.records.specs.Record.{recordOf}
+use Rattle.records.specs.Start.{InTable}
 use Rattle.dispatch.specs.declared.Answer as code
 use Rattle.dispatch.specs.laws.ArrayRules.{answerWith, dueAt, goesOn, morePhases, morePieces, phaseAfter, pieceAfter, pieceEnded, pieceEnds, ran, usedUp, withJobs, withRun}
 use Rattle.dispatch.specs.laws.Moves.{jobs-alike}

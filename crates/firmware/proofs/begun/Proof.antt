@@ -1,7 +1,7 @@
 -- `firmware::begun` meets its contract, case by case. Assumes nothing.
 use mathlib.Core.Path.{_≡_, sym, ap, _∙_}
 use borrow.Author.Needs.{needs}
-use Rattle.dispatch.specs.declared.Dispatcher.{Dispatcher}
+use Rattle.records.specs.declared.Dispatcher.{Dispatcher}
 use Rattle.start.specs.declared.How.{How}
 use Rattle.firmware.specs.Interface.{begunOf}
 use Rattle.firmware.proofs.begun.Statement.{statement}

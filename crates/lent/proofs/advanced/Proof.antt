@@ -41,7 +41,7 @@ use denote.Triple.Walked.{says, Stays, stay-none, walkOf, goes-none, Walks, ends
 use denote.Triple.Clauses.{ensured, lasts}
 use denote.Exit.{yes}
 use Rattle.dispatch.specs.Tick.{Ticks}
-use Rattle.dispatch.specs.declared.Dispatcher.{Dispatcher}
+use Rattle.records.specs.declared.Dispatcher.{Dispatcher}
 use Rattle.dispatch.specs.declared.Answer.{Answer}
 use Rattle.dispatch.specs.declared.Ticked.{Ticked}
 use Rattle.dispatch.proofs.Dispatcher as T

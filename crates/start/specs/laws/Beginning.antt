@@ -7,8 +7,8 @@ use Prim.Native.Nat.{ℕ}
 use native.Mathlib.Omega.{arith}
 use borrow.Author.Tests.{ltb-true}
 use lib.Dec.{ltb}
-use Rattle.dispatch.specs.Record.{emptyRecord}
-use Rattle.dispatch.specs.Start.{readyRecord}
+use Rattle.records.specs.Record.{emptyRecord}
+use Rattle.records.specs.Start.{readyRecord}
 use Rattle.model.specs.Arrays.{phaseAt}
 use Rattle.model.specs.Phase.{Choice, plain}
 use Rattle.model.specs.Tasks.{Each, Sane, Tasks}

@@ -8,7 +8,7 @@ use native.Mathlib.Omega.{arith}
 use native.Mathlib.Decide.{decLt}
 use borrow.Author.Tests.{le-ltb, lt-ltb}
 use lib.Dec.{ltb}
-use Rattle.dispatch.specs.Start.{InTable, Ready as MayStart}
+use Rattle.records.specs.Start.{InTable, Ready as MayStart}
 use Rattle.dispatch.specs.declared.Answer.{Answer}
 use Rattle.dispatch.specs.laws.RecordKept.{record-kept}
 use Rattle.model.specs.Phase.{Choice, plain}

@@ -11,8 +11,8 @@ use lib.ListN.{getD, length, replicate}
 use Rattle.arrays.specs.Masks.{digit}
 use Rattle.finite.specs.Finite.{listTo}
 use Rattle.finite.specs.laws.Lists.{list-alike, list-of}
-use Rattle.dispatch.specs.Start.{readyRecord}
-use Rattle.dispatch.specs.declared.Dispatcher.{Dispatcher}
+use Rattle.records.specs.Start.{readyRecord}
+use Rattle.records.specs.declared.Dispatcher.{Dispatcher}
 use Rattle.finite.specs.laws.Tests.{le-or-lt}
 use Rattle.model.specs.Arrays.{phaseAt}
 use Rattle.model.specs.laws.Arrays.{phase-place}

@@ -7,13 +7,13 @@ use lib.Dec.{leb, ltb, eqb}
 use lib.ListN.{getD}
 use Rattle.finite.specs.Finite.{allTo}
 use Rattle.arrays.specs.Ranges as array
-use Rattle.dispatch.specs.Ranges.{inRange, phaseIn, taskIn, changingIn}
-use Rattle.dispatch.specs.Record.{countsIn, stateIn, tasksIn}
-use Rattle.dispatch.specs.declared.Dispatcher.{Dispatcher}
-use Rattle.dispatch.specs.laws.ArrayRules.{dueTicks}
+use Rattle.records.specs.Ranges.{inRange, phaseIn, taskIn, changingIn}
+use Rattle.records.specs.Record.{countsIn, stateIn, tasksIn}
+use Rattle.records.specs.declared.Dispatcher.{Dispatcher}
 use Rattle.finite.specs.laws.Decided.{both, by-test, every, three, within-decides}
-use Rattle.dispatch.specs.laws.Fields.{JobAt, JobP, PhaseP, RunAt, RunP, TaskP}
+use Rattle.records.specs.laws.Fields.{JobAt, JobP, PhaseP, RunAt, RunP, TaskP}
 use Rattle.finite.specs.Finite.{Below}
+use Rattle.records.specs.laws.Views.{dueTicks}
 use Rattle.finite.specs.laws.Tests.{Decides, eqb-decides, leb-decides, ltb-decides}
 use Rattle.model.specs.Tasks.{Tasks}
 

@@ -9,9 +9,9 @@ use native.Mathlib.Omega.{arith}
 use lib.Dec.{ltb, eqb}
 use lib.ListN.{length, getD, List·getD-eq-default}
 use borrow.Author.Tests.{lt-ltb, le-ltb}
-use Rattle.dispatch.specs.Record.{countsIn, stateIn, tasksIn}
-use Rattle.dispatch.specs.Start.{InTable}
-use Rattle.dispatch.specs.declared.Dispatcher.{Dispatcher}
+use Rattle.records.specs.Record.{countsIn, stateIn, tasksIn}
+use Rattle.records.specs.Start.{InTable}
+use Rattle.records.specs.declared.Dispatcher.{Dispatcher}
 use Rattle.finite.specs.Finite.{Below}
 use Rattle.finite.specs.laws.Tests.{by-cases, cond-false, cond-true}
 use Rattle.model.specs.Arrays.{phaseAt}

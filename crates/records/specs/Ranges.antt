@@ -5,8 +5,8 @@ use Prim.Native.Nat.{ℕ, _-_, _/_, _%_}
 use lib.Dec.{leb, ltb, eqb}
 use lib.ListN.{getD}
 use Rattle.finite.specs.Finite.{allTo}
-use Rattle.dispatch.specs.Record.{countsIn, emptyRecord, stateIn, tasksIn}
-use Rattle.dispatch.specs.declared.Dispatcher.{Dispatcher}
+use Rattle.records.specs.Record.{countsIn, emptyRecord, stateIn, tasksIn}
+use Rattle.records.specs.declared.Dispatcher.{Dispatcher}
 use Rattle.finite.specs.If.{if_then_else_}
 use Rattle.model.specs.Phase.{Choice}
 use Rattle.model.specs.Tasks.{Tasks}

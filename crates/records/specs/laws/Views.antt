@@ -10,13 +10,12 @@ use lib.Dec.{leb, eqb}
 use lib.ListN.{length, getD, List·getD-eq-default}
 use Rattle.arrays.specs.Masks.{digit}
 use Rattle.finite.specs.Finite.{listTo}
-use Rattle.arrays.specs.Rules.{pieceTicks}
+use Rattle.arrays.specs.Rules.{pieceTicks, ticksOf}
 use Rattle.finite.specs.laws.Lists.{getD-list, length-list, list-alike, list-of}
-use Rattle.dispatch.specs.Record.{countsIn, recordOf, stateIn, tasksIn}
-use Rattle.dispatch.specs.Start.{InTable}
-use Rattle.dispatch.specs.declared.Dispatcher.{Dispatcher}
-use Rattle.dispatch.specs.laws.ArrayRules.{dueTicks}
-use Rattle.dispatch.specs.laws.Fields.{Long}
+use Rattle.records.specs.Record.{countsIn, recordOf, stateIn, tasksIn}
+use Rattle.records.specs.Start.{InTable}
+use Rattle.records.specs.declared.Dispatcher.{Dispatcher}
+use Rattle.records.specs.laws.Fields.{Long}
 use Rattle.model.specs.Arrays.{phaseAt}
 use Rattle.model.specs.laws.Arrays.{phase-at, phase-none, phase-place}
 use Rattle.model.specs.Phase.{Choice, pieceLength}
@@ -151,6 +150,10 @@ module _ (S : Tasks) (x : Choice) (table : InTable S x) where
       none i h = ok .none i (omega (arith, table .tasks))
 
 -- ---- the ticks of a piece
+
+-- the ticks of the running or next due piece of task t (from 1), straight from the arrays
+abbrev pub dueTicks : Dispatcher → ℕ → ℕ
+dueTicks d t = ticksOf (d .phase) (d .piece) (d .work) (d .cost) (d .counts) t
 
 length-is : (c q x p : ℕ) → 1 ≤ p → pieceTicks c q x p ≡ pieceLength c q x (p - 1)
 unfolding pieceLength

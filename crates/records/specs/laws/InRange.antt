@@ -8,14 +8,13 @@ use native.Mathlib.Omega.{arith}
 use lib.Dec.{ltb, eqb}
 use lib.ListN.{getD}
 use borrow.Author.Tests.{ltb-true, ltb-false}
-use Rattle.dispatch.specs.Ranges.{inRange}
-use Rattle.dispatch.specs.Record.{countsIn, stateIn, tasksIn}
-use Rattle.dispatch.specs.declared.Dispatcher.{Dispatcher}
-use Rattle.dispatch.specs.laws.ArrayRules.{dueTicks}
+use Rattle.records.specs.Ranges.{inRange}
+use Rattle.records.specs.Record.{countsIn, stateIn, tasksIn}
+use Rattle.records.specs.declared.Dispatcher.{Dispatcher}
 use Rattle.finite.specs.laws.Decided.{alike}
-use Rattle.dispatch.specs.laws.Fields.{Fields, JobAt, JobP, Long, PhaseP, RunAt, RunP, TaskP, Within, fields}
-use Rattle.dispatch.specs.laws.Ranging.{NowP, PlaceOkP, PlaceP, range-decides, tested, tested-decides}
-use Rattle.dispatch.specs.laws.Views.{due-of-views}
+use Rattle.records.specs.laws.Fields.{Fields, JobAt, JobP, Long, PhaseP, RunAt, RunP, TaskP, Within, fields}
+use Rattle.records.specs.laws.Ranging.{NowP, PlaceOkP, PlaceP, range-decides, tested, tested-decides}
+use Rattle.records.specs.laws.Views.{due-of-views, dueTicks}
 use Rattle.finite.specs.Finite.{Below}
 use Rattle.finite.specs.laws.Tests.{by-cases}
 use Rattle.model.specs.laws.Arrays.{phase-at, phase-place}

@@ -2,8 +2,8 @@
 -- Assumes nothing.
 use mathlib.Core.Path.{_≡_}
 use Prim.Native.Nat.{ℕ, _≤_}
-use Rattle.dispatch.specs.Record.{recordOf}
-use Rattle.dispatch.specs.declared.Dispatcher.{Dispatcher}
+use Rattle.records.specs.Record.{recordOf}
+use Rattle.records.specs.declared.Dispatcher.{Dispatcher}
 use Rattle.finite.specs.Finite.{Below}
 use Rattle.model.specs.Phase.{Choice, plain}
 use Rattle.model.specs.Tasks.{Each, Tasks}

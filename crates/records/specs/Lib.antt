@@ -1,0 +1,4 @@
+pub mod Record
+pub mod Ranges
+pub mod Start
+pub mod laws

@@ -1,0 +1,51 @@
+// The dispatcher's record, held by value.
+ghost use mathlib.Core.Path.{_≡_};
+ghost use Rattle.records.specs.Record.{emptyRecord};
+
+// The record. T, D and the number of phases of each task; c, q and the count of each phase, eight places for each task; then what a tick changes:
+// the ticks since the last admitted release, whether a job is unfinished (1, else 0), its time left, its phase and piece; the running task and the
+// ticks left of its piece.
+#[repr(C)]
+pub struct Dispatcher {
+    pub tasks: u32,
+    pub spacing: [u32; 32],
+    pub deadline: [u32; 32],
+    pub phases: [u32; 32],
+    pub work: [u32; 256],
+    pub cost: [u32; 256],
+    pub counts: [u32; 256],
+    pub since: [u32; 32],
+    pub unfinished: [u32; 32],
+    pub left: [u32; 32],
+    pub phase: [u32; 32],
+    pub piece: [u32; 32],
+    pub running: u32,
+    pub ticks: u64,
+}
+
+impl Dispatcher {
+    // The empty record: it runs nothing and lets nothing in.
+    pub const EMPTY: Dispatcher = Dispatcher {
+        tasks: 0,
+        spacing: [0; 32],
+        deadline: [0; 32],
+        phases: [0; 32],
+        work: [0; 256],
+        cost: [0; 256],
+        counts: [0; 256],
+        since: [0; 32],
+        unfinished: [0; 32],
+        left: [0; 32],
+        phase: [0; 32],
+        piece: [0; 32],
+        running: 0,
+        ticks: 0,
+    };
+
+    // The same as a call, with its promise.
+    pub fn empty() -> Dispatcher
+        ensures { λ r. ⌜ r ≡ emptyRecord ⌝ }
+    {
+        Dispatcher::EMPTY
+    }
+}
