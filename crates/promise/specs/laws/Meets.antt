@@ -1,7 +1,7 @@
 -- DEMAND 3 FROM ONE FACT: no job is ever late. Whoever goes first, and however late releases are heard of.
 -- Assumes nothing.
 use lib.Dec.{eqb}
-use Prim.Native.Nat.{ℕ, suc, _+_, _-_, _≤_, _<_}
+use Prim.Native.Nat.{ℕ, suc, _+_, _-_, _<_}
 use mathlib.Core.Path.{_≡_, sym, ap, _∙_}
 use mathlib.Core.Bool.{true, cond}
 use native.Mathlib.Omega.{arith}

@@ -7,7 +7,7 @@ use mathlib.Core.Bool.{true, false, true≢false}
 use native.Mathlib.Decide.{ℕ-discrete}
 use native.Mathlib.Omega.{arith}
 use Rattle.finite.specs.laws.Tests.{by-cases}
-use Rattle.promise.specs.laws.View.{Admitted, Advanced, Aged, Ask, Elapsed, GoesOn, Pass, Picked, Ranges, Run, Start, Started, Terms, Unchanged, Used, View, Views, Worked, goes-on, idles, rests, starts, works}
+use Rattle.promise.specs.laws.View.{Admitted, Aged, Ask, Elapsed, GoesOn, Pass, Picked, Ranges, Run, Start, Started, Terms, Unchanged, Used, View, Views, Worked, goes-on, idles, rests, starts, works}
 
 -- of the task whose piece runs
 pub record Running (τ : Terms) (s : View) (j : ℕ) : Type 0 where

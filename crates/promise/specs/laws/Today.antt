@@ -9,28 +9,24 @@ use borrow.Author.Tests.{le-leb}
 use Rattle.model.specs.Phase.{Choice}
 use Rattle.model.specs.Tasks.{Tasks}
 use Rattle.promise.specs.History.{answerAt, recordAt}
-use Rattle.promise.specs.Rules.{Request, State, admit, answerBy, answerOf, best, elapse, initial, letsIn, pick, pickAt, tick, workAt}
+use Rattle.promise.specs.Rules.{Request, State, admit, answerBy, answerOf, elapse, initial, letsIn, pick, pickAt, tick, workAt}
 use Rattle.promise.specs.laws.Late.{LateRequest, admitAt, elapseAt, lateAnswer, lateAnswerAt, lateInitial, lateRecordAt, lateTick, letsInAt, pickBy, pickByAt}
+use Rattle.promise.specs.laws.Urgent.{bestOf}
 
 -- document 01's request: every release is seen in its own tick
 abbrev pub fresh : Request → LateRequest
 fresh r = record { mask = r .mask; age = λ i. 0; flag = r .flag }
 
-and-true : (a b : Bool) → b ≡ true → (a && b) ≡ a
-and-true true b e = e
-and-true false b e = refl
-
--- document 01's choice
-abbrev pub bestOf : Tasks → State → ℕ
-bestOf S s = best s (S .n)
+and-true : (a : Bool) → (a && true) ≡ a
+and-true true = refl
+and-true false = refl
 
 module _ (S : Tasks) (x : Choice) where
   pub today-lets : (s : State) (mask : ℕ → Bool) → letsInAt S 0 s mask (λ i. 0) ≡ letsIn S s mask
   unfolding letsInAt letsIn
   today-lets s mask = fun-ext (λ i.
       let t : S .T i + 0 ≡ S .T i = omega arith in
-      and-true (mask i && ltb i (S .n) && not (s .busy i) && leb (S .T i + 0) (s .since i)) (leb 0 0) (le-leb 0 0 (omega arith)) ∙
-      ap (λ t. mask i && ltb i (S .n) && not (s .busy i) && leb t (s .since i)) t)
+      rw (t, le-leb 0 0 (omega arith)) (and-true (letsIn S s mask i)))
 
   pub today-admit : (s : State) (mask : ℕ → Bool) → admitAt S 0 mask (λ i. 0) s ≡ admit S mask s
   today-admit s mask =
