@@ -16,11 +16,11 @@ use Rattle.promise.specs.laws.Deadlines.{Done, Within, deadline-met}
 use Rattle.promise.specs.laws.Jobs.{ranAt}
 use Rattle.promise.specs.laws.Late.{Chooses, LateKept, LateRequest, MeetsFrom, ageless, lateAnswerAt}
 use Rattle.promise.specs.laws.Order.{finished-is, let-in-is, pass-flag, pass-ran, piece-in-order}
-use Rattle.promise.specs.laws.Remaining.{Ranged, terms}
-use Rattle.promise.specs.laws.Ticking.{askAt, passAt, runs, viewsAt}
-use Rattle.promise.specs.laws.View.{NeverLate, Pass, Ranges}
+use Rattle.promise.specs.laws.Remaining.{Ranged, terms, view}
+use Rattle.promise.specs.laws.Starting.{picks-first}
+use Rattle.promise.specs.laws.Ticking.{askAt, enteredAt, passAt, runs, viewsAt}
+use Rattle.promise.specs.laws.View.{NeverLate, Pass, Ranges, Safety, View}
 
--- What a choice of step 2 has to bring: that it starts a job where one is unfinished, and, by an argument of its own, that no job is late.
 module _ (S : Tasks) (x : Choice) (ranged : (i : ℕ) → i < S .n → Ranged S x i) (lag : ℕ) (ρ : Ranges (terms S x lag))
     (choose : State → ℕ) (chosen : Chooses S choose) (ask : ℕ → LateRequest) (never-late : NeverLate (terms S x lag) (viewsAt S x lag choose ask)) where
   abbrev h : ℕ → Answer
@@ -75,3 +75,17 @@ module _ (S : Tasks) (x : Choice) (ranged : (i : ℕ) → i < S .n → Ranged S 
         kept = record { deadlines = job-meets; pieces = piece-in-order S x ranged lag choose chosen ask };
         arrivals = late-meets;
       }
+
+-- All that a choice of step 2 has to bring: that it starts a job where one is unfinished, and a rule that it follows, with a safety argument.
+pub kept-safely : (S : Tasks) (x : Choice) → ((i : ℕ) → i < S .n → Ranged S x i) → (lag : ℕ) → Ranges (terms S x lag)
+    → (First : View → ℕ → Type 0) → Safety (terms S x lag) First
+    → (choose : State → ℕ) → Chooses S choose → ((s : State) (j : ℕ) → choose s ≡ suc j → First (view S x s) j)
+    → (ask : ℕ → LateRequest) → LateKept S x ask (λ t. lateAnswerAt S x lag choose ask t)
+kept-safely S x ranged lag ρ First safety choose chosen rule ask =
+    kept-by S x ranged lag ρ choose chosen ask
+    (safety
+    (askAt S x lag choose ask)
+    (passAt S x lag choose ask)
+    (viewsAt S x lag choose ask)
+    (runs S x ranged lag choose chosen ask)
+    (λ t. picks-first S x choose First rule (enteredAt S x lag choose ask t)))
