@@ -1,4 +1,4 @@
--- The plain ranges of a view, and that every part of a tick keeps them, whoever goes first.
+-- The ranges of a view, and that every part of a tick keeps them, whoever goes first.
 -- Assumes nothing.
 use Prim.Native.Nat.{ℕ, zero, suc, _+_, _-_, _≤_, _<_}
 use mathlib.Core.Path.{_≡_, sym, ap, _∙_, subst}
@@ -23,6 +23,7 @@ pub record Pending (τ : Terms) (s : View) (i : ℕ) : Type 0 where
   pub some : 1 ≤ s .rem i
   pub most : s .rem i ≤ τ .cost i
 
+-- of a view
 pub record Sound (τ : Terms) (s : View) : Type 0 where
   pub since : (i : ℕ) → i < τ .tasks .n → s .since i ≤ τ .tasks .T i + τ .lag
   pub pending : (i : ℕ) → i < τ .tasks .n → s .busy i ≡ true → Pending τ s i
@@ -32,6 +33,7 @@ pub record Sound (τ : Terms) (s : View) : Type 0 where
 abbrev pub Going : Terms → View → Type 0
 Going τ s = ((j : ℕ) × (s .run ≡ suc j)) ⊎ ((i : ℕ) → i < τ .tasks .n → s .busy i ≡ false)
 
+-- a view that stays leaves every task as it was
 pub same-unchanged : (s s′ : View) (i : ℕ) → s′ ≡ s → Unchanged s s′ i
 same-unchanged s s′ i e =
     record {
