@@ -8,7 +8,7 @@ fn one_case() -> bool {
     if !case.found {
         return false;
     }
-    show::verdict(&buffer[..length]);
+    show_verdict::verdict(&buffer[..length]);
     true
 }
 

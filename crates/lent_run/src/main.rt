@@ -4,14 +4,13 @@ use dispatch::Answer;
 use lent::Demand;
 use lent::TaskLoad;
 use libc::STDOUT_FILENO;
-use records::Dispatcher;
+use show::spaced_number;
 
 // A line: the length t and the demand there, or the word that it does not fit.
 fn print_demand(t: u64, d: Demand) {
     io::print_decimal(STDOUT_FILENO, t);
     if d.fits {
-        io::write_all(STDOUT_FILENO, b" ");
-        io::print_decimal(STDOUT_FILENO, d.sum);
+        spaced_number(d.sum);
         io::write_all(STDOUT_FILENO, b"\n");
     } else {
         io::write_all(STDOUT_FILENO, b" does not fit\n");
@@ -64,42 +63,23 @@ fn print_demands() {
 
 // Table A ready to run: 10/8 with one phase 2+1 in one piece, 20/18 with one phase 9+1 in three.
 fn ready_a() -> Dispatcher {
-    let numbers = [0u32; 32];
-    let mut spacing = numbers;
-    spacing[0] = 10;
-    spacing[1] = 20;
-    let mut deadline = numbers;
-    deadline[0] = 8;
-    deadline[1] = 18;
-    let mut phases = numbers;
-    phases[0] = 1;
-    phases[1] = 1;
-    let places = [0u32; 256];
-    let mut work = places;
-    work[0] = 2;
-    work[8] = 9;
-    let mut cost = places;
-    cost[0] = 1;
-    cost[8] = 1;
-    let mut counts = places;
-    counts[0] = 1;
-    counts[8] = 3;
-    Dispatcher {
-        tasks: 2,
-        spacing,
-        deadline,
-        phases,
-        work,
-        cost,
-        counts,
-        since: spacing,
-        unfinished: numbers,
-        left: numbers,
-        phase: numbers,
-        piece: numbers,
-        running: 0,
-        ticks: 0,
-    }
+    let mut d = Dispatcher::empty();
+    d.tasks = 2;
+    d.spacing[0] = 10;
+    d.since[0] = 10;
+    d.deadline[0] = 8;
+    d.phases[0] = 1;
+    d.work[0] = 2;
+    d.cost[0] = 1;
+    d.counts[0] = 1;
+    d.spacing[1] = 20;
+    d.since[1] = 20;
+    d.deadline[1] = 18;
+    d.phases[1] = 1;
+    d.work[8] = 9;
+    d.cost[8] = 1;
+    d.counts[8] = 3;
+    d
 }
 
 // Both tasks ask in tick 0; task 1 asks again in tick 9, too early, and in tick 10.
@@ -113,19 +93,14 @@ fn asked(tick: u64) -> u32 {
     0
 }
 
-fn spaced(n: u32) {
-    io::write_all(STDOUT_FILENO, b" ");
-    io::print_decimal(STDOUT_FILENO, n as u64);
-}
-
 // A line: the tick, the masks let in and turned away, the task that ran with its phase and piece, and whether its job finished.
 fn print_tick(tick: u64, a: Answer) {
     io::print_decimal(STDOUT_FILENO, tick);
-    spaced(a.admitted);
-    spaced(a.away);
-    spaced(a.task);
-    spaced(a.phase);
-    spaced(a.piece);
+    spaced_number(a.admitted as u64);
+    spaced_number(a.away as u64);
+    spaced_number(a.task as u64);
+    spaced_number(a.phase as u64);
+    spaced_number(a.piece as u64);
     if a.finished {
         io::write_all(STDOUT_FILENO, b" finished");
     }

@@ -4,7 +4,7 @@ ghost use Prim.Native.Nat.{_+_, _≤_};
 ghost use lib.ListN.{length};
 ghost use Rattle.io.specs.Counts.{Counts};
 use libc::STDIN_FILENO;
-use show::Run;
+use show_run::Run;
 
 // The bytes from `from` on, `kept` of them, are moved to the front.
 fn moved(buffer: &mut [u8], from: usize, kept: usize)
@@ -40,7 +40,7 @@ fn ticks(run: Run, buffer: &[u8], from: usize, have: usize, whole: bool) -> Run 
     if have < from {
         return run;
     }
-    show::ticks(run, &buffer[from..have], whole)
+    show_run::ticks(run, &buffer[from..have], whole)
 }
 
 // All ticks of the input. A proved loop has to end, and nothing says that the input does: it counts its turns down.
@@ -66,8 +66,8 @@ fn main() {
     // room for the table's length and the longest table that it may announce: an input that does not fill it is whole
     let mut buffer = [0u8; 65552];
     let have = io::read_full(STDIN_FILENO, &mut buffer);
-    let r = show::begin(&buffer[..have]);
+    let r = show_run::begin(&buffer[..have]);
     if r.going {
-        show::finish(all_ticks(r, &mut buffer, have));
+        show_run::finish(all_ticks(r, &mut buffer, have));
     }
 }

@@ -1,11 +1,11 @@
 // Runs many stored inputs of program `replay`, and prints for each what it prints. The expected output is made by the separate program in papers/.
 // One run, whole.
 fn run(input: &[u8]) {
-    let r = show::begin(input);
+    let r = show_run::begin(input);
     let at = r.used;
     if r.going {
         if at <= input.len() {
-            show::finish(show::ticks(r, &input[at..], true));
+            show_run::finish(show_run::ticks(r, &input[at..], true));
         }
     }
 }

@@ -2,38 +2,34 @@
 // for turning it away. They are the byte strings of crate `worked`'s list. J, the lengths of a phase's pieces, is not a table: the list has it of
 // the definitions alone, and it does not stand here.
 use answer::Outcome;
+use libc::STDOUT_FILENO;
 
-fn print_byte(byte: u8) {
-    io::write_all(1, b" ");
-    io::print_decimal(1, byte as u64);
+fn spaced_byte(byte: u8) {
+    show::spaced_number(byte as u64);
 }
 
-// The first `count` bytes as numbers, each behind a space.
-fn print_bytes(bytes: &[u8], count: usize) {
-    let mut i: usize = 0;
-    while i < bytes.len() {
+// The first `count` bytes as numbers, each behind a space, and the end of the line.
+fn line_of_bytes(bytes: &[u8], count: usize) {
+    for i in 0..bytes.len() {
         if i < count {
-            print_byte(bytes[i]);
+            spaced_byte(bytes[i]);
         }
-        i += 1;
     }
+    io::write_all(STDOUT_FILENO, b"\n");
 }
 
+// A table's letter and its answer or what turned it away, on a line.
 fn run(letter: &[u8], table: &[u8]) {
-    io::write_all(1, letter);
+    io::write_all(STDOUT_FILENO, letter);
     let mut answer = [0u8; answer::ANSWER_ROOM];
     match edf::judge(table, &mut answer) {
-        Outcome::TurnedAway(reason, place) => {
-            io::write_all(1, b" turned away ");
-            io::print_decimal(1, reason as u64);
-            io::write_all(1, b" ");
-            io::print_decimal(1, place as u64);
-        }
-        Outcome::Answered(length) => {
-            print_bytes(&answer, length);
-        }
+        Outcome::TurnedAway(reason, place) => show::turned_away(
+            b" turned away",
+            reason,
+            place as u64,
+        ),
+        Outcome::Answered(length) => line_of_bytes(&answer, length),
     }
-    io::write_all(1, b"\n");
 }
 
 fn main() {

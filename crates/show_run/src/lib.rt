@@ -1,16 +1,15 @@
-// A run of the dispatcher over an input: the table's length, the table, then a number for each tick, 2 mask + flag.
+// Runs the dispatcher over an input (the table's length, the table, then a number for each tick, 2 mask + flag) and prints it tick by tick. What is
+// printed no contract can say; it is compared with stored output.
 ghost use mathlib.Core.Path.{_≡_};
 ghost use mathlib.Core.Bool.{false};
 ghost use Prim.Native.Nat.{_≤_};
 ghost use lib.ListN.{length};
-use crate::judged::after;
-use crate::judged::spaced;
-use crate::judged::turned_away;
-use crate::judged::verdict;
 use dispatch::Answer;
 use dispatch::Dispatcher;
 use groups::Number;
 use libc::STDOUT_FILENO;
+use show::spaced_number;
+use show::turned_away;
 use start::How;
 
 // The longest table that an input may announce: far more than a table that is read has.
@@ -34,10 +33,12 @@ pub struct Run {
     pub worst: [u64; 32],
 }
 
-fn more(a: u64, b: u64) -> u64 {
+// Numbers of ticks, jobs and bytes never come near 2^64; nothing here proves it, so the sum is one that may wrap.
+fn sum(a: u64, b: u64) -> u64 {
     std::num::wrapping_add_u64(a, b)
 }
 
+// A run that was not started: every number is 0.
 fn idle() -> Run
     ensures { λ r. ⌜ (r .ready ≡ false) × (r .used ≡ 0) ⌝ }
 {
@@ -65,7 +66,7 @@ fn started(table: &[u8], used: usize) -> Run
     r.place = used as u64;
     let how = s.how;
     let How::Ready = how else {
-        verdict(table);
+        show_verdict::verdict(table);
         return r;
     };
     let d = s.dispatcher;
@@ -102,14 +103,14 @@ pub fn begin(input: &[u8]) -> Run
 // A tick's line.
 fn print_tick(tick: u64, a: Answer) {
     io::print_decimal(STDOUT_FILENO, tick);
-    spaced(a.admitted as u64);
-    spaced(a.away as u64);
+    spaced_number(a.admitted as u64);
+    spaced_number(a.away as u64);
     if a.task == 0 {
         io::write_all(STDOUT_FILENO, b" -");
     } else {
-        spaced(a.task as u64);
-        spaced(a.phase as u64);
-        spaced(a.piece as u64);
+        spaced_number(a.task as u64);
+        spaced_number(a.phase as u64);
+        spaced_number(a.piece as u64);
     }
     if a.finished {
         io::write_all(STDOUT_FILENO, b" finished");
@@ -124,7 +125,7 @@ fn admitted(run: Run, mask: u32) -> Run {
     let mut r = run;
     for i in 0usize..32 {
         if (mask >> i) % 2 == 1 {
-            r.jobs[i] = more(r.jobs[i], 1);
+            r.jobs[i] = sum(r.jobs[i], 1);
             r.released[i] = r.tick;
         }
     }
@@ -135,8 +136,8 @@ fn admitted(run: Run, mask: u32) -> Run {
 fn ended(run: Run, i: usize) -> Run {
     let mut r = run;
     if i < 32 {
-        let response = more(std::num::wrapping_sub_u64(r.tick, r.released[i]), 1);
-        r.finished[i] = more(r.finished[i], 1);
+        let response = sum(std::num::wrapping_sub_u64(r.tick, r.released[i]), 1);
+        r.finished[i] = sum(r.finished[i], 1);
         if r.worst[i] < response {
             r.worst[i] = response;
         }
@@ -158,7 +159,7 @@ fn one_tick(run: Run, request: u64) -> Run {
     }
     let next = t.next;
     r.record = next;
-    r.tick = more(r.tick, 1);
+    r.tick = sum(r.tick, 1);
     r
 }
 
@@ -170,8 +171,8 @@ fn stopped(run: Run, reason: u8, place: u64) -> Run {
     r
 }
 
-// Whether the dispatcher was started does not change.
-fn kept(run: Run, ready: bool) -> Run
+// The run with `ready` as given.
+fn with_ready(run: Run, ready: bool) -> Run
     ensures { λ r. ⌜ r .ready ≡ ready ⌝ }
 {
     let mut r = run;
@@ -191,7 +192,7 @@ fn each_tick(run: Run, bytes: &[u8], whole: bool) -> Run {
                 return r;
             }
             match groups::read(bytes, at) {
-                Number::Ends => return stopped(r, 2, more(first, bytes.len() as u64)),
+                Number::Ends => return stopped(r, 2, sum(first, bytes.len() as u64)),
                 Number::Malformed => return stopped(r, 3, r.place),
                 Number::Value(v, next) => {
                     if REQUEST_MOST < v {
@@ -199,7 +200,7 @@ fn each_tick(run: Run, bytes: &[u8], whole: bool) -> Run {
                     }
                     r = one_tick(r, v);
                     r.used = next;
-                    r.place = more(first, next as u64);
+                    r.place = sum(first, next as u64);
                 }
             }
         }
@@ -211,21 +212,21 @@ fn each_tick(run: Run, bytes: &[u8], whole: bool) -> Run {
 pub fn ticks(run: Run, bytes: &[u8], whole: bool) -> Run
     ensures { λ r. ⌜ r .ready ≡ run .ready ⌝ }
 {
-    kept(each_tick(run, bytes, whole), run.ready)
+    with_ready(each_tick(run, bytes, whole), run.ready)
 }
 
 // A task's line at the end.
 fn print_task(i: usize, jobs: u64, finished: u64, worst: u64, deadline: u32) {
     io::write_all(STDOUT_FILENO, b"task");
-    spaced(after(i));
+    spaced_number(show::task_number(i));
     io::write_all(STDOUT_FILENO, b":");
-    spaced(jobs);
+    spaced_number(jobs);
     io::write_all(STDOUT_FILENO, b" let in,");
-    spaced(finished);
+    spaced_number(finished);
     io::write_all(STDOUT_FILENO, b" finished, worst response");
-    spaced(worst);
+    spaced_number(worst);
     io::write_all(STDOUT_FILENO, b" of");
-    spaced(deadline as u64);
+    spaced_number(deadline as u64);
     io::write_all(STDOUT_FILENO, b"\n");
 }
 

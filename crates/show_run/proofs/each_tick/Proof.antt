@@ -1,8 +1,8 @@
--- `show::replayed::each_tick` is safe and ends. Assumes nothing.
+-- `show_run::each_tick` is safe and ends. Assumes nothing.
 use Prim.Native.Nat.{_≤_, _-_}
 use borrow.Author.Needs.{needs}
-use Rattle.show.proofs.replayed.each_tick.Statement.{statement}
-use Rattle.show.proofs.replayed.each_tick.Tie as tie
+use Rattle.show_run.proofs.each_tick.Statement.{statement}
+use Rattle.show_run.proofs.each_tick.Tie as tie
 
 abbrev Inv-loop : tie.InvT-loop
 Inv-loop bytes whole r₀ first k₀ k-end r k = k ≤ k-end
@@ -25,8 +25,8 @@ read-requires c κs = search needs
 enum-told : tie.Need-enum-told Inv-loop μ-loop
 enum-told c = search needs
 
-more-requires : tie.Need-more-requires Inv-loop μ-loop
-more-requires c κs = search needs
+sum-requires : tie.Need-sum-requires Inv-loop μ-loop
+sum-requires c κs = search needs
 
 stopped-requires : tie.Need-stopped-requires Inv-loop μ-loop
 stopped-requires c κs = search needs
@@ -55,8 +55,8 @@ returns-4 c = search needs
 one-tick-requires : tie.Need-one-tick-requires Inv-loop μ-loop
 one-tick-requires c κs = search needs
 
-more-requires-2 : tie.Need-more-requires-2 Inv-loop μ-loop
-more-requires-2 c κs = search needs
+sum-requires-2 : tie.Need-sum-requires-2 Inv-loop μ-loop
+sum-requires-2 c κs = search needs
 
 add-k : tie.Need-add-k Inv-loop μ-loop
 add-k c = search needs
@@ -71,4 +71,4 @@ returns-5 : tie.Need-returns-5 Inv-loop μ-loop
 returns-5 c = search needs
 
 pub each-tick-spec : {M : Type 1} → statement M
-each-tick-spec = tie.close (tie.spec Inv-loop μ-loop loop-holds sub-if2 returns read-requires enum-told more-requires stopped-requires returns-2 enum-told-2 stopped-requires-2 returns-3 enum-known-v stopped-requires-3 returns-4 one-tick-requires more-requires-2 add-k loop-less loop-again returns-5)
+each-tick-spec = tie.close (tie.spec Inv-loop μ-loop loop-holds sub-if2 returns read-requires enum-told sum-requires stopped-requires returns-2 enum-told-2 stopped-requires-2 returns-3 enum-known-v stopped-requires-3 returns-4 one-tick-requires sum-requires-2 add-k loop-less loop-again returns-5)

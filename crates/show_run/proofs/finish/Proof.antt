@@ -1,8 +1,8 @@
--- `show::replayed::finish` is safe and ends. Assumes nothing.
+-- `show_run::finish` is safe and ends. Assumes nothing.
 use Prim.Native.Nat.{_≤_, _-_}
 use borrow.Author.Needs.{needs}
-use Rattle.show.proofs.replayed.finish.Statement.{statement}
-use Rattle.show.proofs.replayed.finish.Tie as tie
+use Rattle.show_run.proofs.finish.Statement.{statement}
+use Rattle.show_run.proofs.finish.Tie as tie
 
 abbrev Inv-loop : tie.InvT-loop
 Inv-loop run d deadline i₀ i = i ≤ 32

@@ -1,8 +1,8 @@
--- `show::replayed::admitted` is safe and ends. Assumes nothing.
+-- `show_run::admitted` is safe and ends. Assumes nothing.
 use Prim.Native.Nat.{_≤_, _-_}
 use borrow.Author.Needs.{needs}
-use Rattle.show.proofs.replayed.admitted.Statement.{statement}
-use Rattle.show.proofs.replayed.admitted.Tie as tie
+use Rattle.show_run.proofs.admitted.Statement.{statement}
+use Rattle.show_run.proofs.admitted.Tie as tie
 
 abbrev Inv-loop : tie.InvT-loop
 Inv-loop mask r₀ i₀ r i = i ≤ 32
@@ -19,14 +19,14 @@ cast-if1 c = search needs
 shr-if1 : tie.Need-shr-if1 Inv-loop μ-loop
 shr-if1 c = search needs
 
-mul-more : tie.Need-mul-more Inv-loop μ-loop
-mul-more c = search needs
+mul-sum : tie.Need-mul-sum Inv-loop μ-loop
+mul-sum c = search needs
 
-element-copy-out-more : tie.Need-element-copy-out-more Inv-loop μ-loop
-element-copy-out-more c = search needs
+element-copy-out-sum : tie.Need-element-copy-out-sum Inv-loop μ-loop
+element-copy-out-sum c = search needs
 
-more-requires : tie.Need-more-requires Inv-loop μ-loop
-more-requires c κs = search needs
+sum-requires : tie.Need-sum-requires Inv-loop μ-loop
+sum-requires c κs = search needs
 
 mul-r : tie.Need-mul-r Inv-loop μ-loop
 mul-r c = search needs
@@ -53,4 +53,4 @@ returns : tie.Need-returns Inv-loop μ-loop
 returns c = search needs
 
 pub admitted-spec : {M : Type 1} → statement M
-admitted-spec = tie.close (tie.spec Inv-loop μ-loop loop-holds cast-if1 shr-if1 mul-more element-copy-out-more more-requires mul-r element-write-r mul-r-2 element-write-r-2 add-i loop-less loop-again returns)
+admitted-spec = tie.close (tie.spec Inv-loop μ-loop loop-holds cast-if1 shr-if1 mul-sum element-copy-out-sum sum-requires mul-r element-write-r mul-r-2 element-write-r-2 add-i loop-less loop-again returns)
