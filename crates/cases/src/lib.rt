@@ -1,6 +1,6 @@
 // Stored cases on standard input: for each its length in two bytes, the lower first, and then its bytes.
 ghost use mathlib.Core.Path.{_≡_};
-ghost use mathlib.Core.Bool.{true};
+ghost use mathlib.Core.Bool.{true, false};
 ghost use Prim.Native.Nat.{_-_, _≤_, _<_};
 ghost use Rattle.io.specs.Counts.{Counts};
 use libc::STDIN_FILENO;
@@ -62,7 +62,8 @@ fn head() -> Announced
 fn body(left: u64, length: usize, got: usize, buffer: &[u8]) -> Case
     requires { ⌜ length < 65536 ⌝ }
     ensures { λ r. ⌜ Counts (r .length) (now (buffer .entry)) ⌝ }
-    ensures { λ r. ⌜ (r .left ≤ left - 1) × (r .cut ≡ true → r .left ≡ 0) × (got < length → r .cut ≡ true) ⌝ }
+    ensures { λ r. ⌜ (r .left ≤ left - 1) × (r .cut ≡ true → r .left ≡ 0) ⌝ }
+    ensures { λ r. ⌜ (got < length → r .cut ≡ true) × (length ≤ got → r .cut ≡ false) ⌝ }
 {
     if got < length {
         return end(true, buffer);

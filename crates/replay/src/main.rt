@@ -63,8 +63,7 @@ fn all_ticks(run: Run, buffer: &mut [u8], have: usize) -> Run {
 }
 
 fn main() {
-    // room for the table's length and the longest table that it may announce: an input that does not fill it is whole
-    let mut buffer = [0u8; 65552];
+    let mut buffer = [0u8; show_run::INPUT_ROOM];
     let have = io::read_full(STDIN_FILENO, &mut buffer);
     let r = show_run::begin(&buffer[..have]);
     if r.going {

@@ -15,6 +15,9 @@ use start::How;
 // The longest table that an input may announce: far more than a table that is read has.
 const TABLE_MOST: u64 = 65_535;
 
+// Room for the table's length and the longest table that it may announce: an input that does not fill it is whole.
+pub const INPUT_ROOM: usize = 65_552;
+
 // A mask of 32 bits and a flag.
 const REQUEST_MOST: u64 = 8_589_934_591;
 

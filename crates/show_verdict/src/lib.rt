@@ -28,11 +28,7 @@ fn line_of_numbers(answer: &[u8], at: usize, count: usize) -> usize {
 // A task's line: its number, its counts and its longest piece; the place behind them.
 fn task_line(answer: &[u8], at: usize, i: usize, phases: u32) -> usize {
     io::print_decimal(STDOUT_FILENO, show::task_number(i));
-    if phases <= 8 {
-        line_of_numbers(answer, at, phases as usize + 1)
-    } else {
-        at
-    }
+    line_of_numbers(answer, at, phases as usize + 1)
 }
 
 // An accepted answer: its line, and a line for each task. How many phases a task has stands in the table only.
