@@ -1,5 +1,7 @@
 // Runs the dispatcher over an input (the table's length, the table, then a number for each tick, 2 mask + flag) and prints it tick by tick. What is
 // printed no contract can say; it is compared with stored output.
+mod jobs;
+
 ghost use mathlib.Core.Path.{_≡_};
 ghost use mathlib.Core.Bool.{false};
 ghost use Prim.Native.Nat.{_≤_};
@@ -7,6 +9,8 @@ ghost use lib.ListN.{length};
 use dispatch::Answer;
 use dispatch::Dispatcher;
 use groups::Number;
+use jobs::Tally;
+use jobs::sum;
 use libc::STDOUT_FILENO;
 use show::spaced_number;
 use show::turned_away;
@@ -22,7 +26,7 @@ pub const INPUT_ROOM: usize = 65_552;
 const REQUEST_MOST: u64 = 8_589_934_591;
 
 // The dispatcher's record, the number of the next tick and its place in the input; `going` until the input is turned away, and `ready` where the
-// dispatcher was started. Of each task the jobs let in and finished, the tick of the last release and the worst response.
+// dispatcher was started.
 pub struct Run {
     pub ready: bool,
     pub going: bool,
@@ -30,15 +34,7 @@ pub struct Run {
     pub used: usize,
     pub tick: u64,
     pub record: Dispatcher,
-    pub jobs: [u64; 32],
-    pub finished: [u64; 32],
-    pub released: [u64; 32],
-    pub worst: [u64; 32],
-}
-
-// Numbers of ticks, jobs and bytes never come near 2^64; nothing here proves it, so the sum is one that may wrap.
-fn sum(a: u64, b: u64) -> u64 {
-    std::num::wrapping_add_u64(a, b)
+    pub tally: Tally,
 }
 
 // A run that was not started: every number is 0.
@@ -52,10 +48,7 @@ fn idle() -> Run
         used: 0,
         tick: 0,
         record: Dispatcher::empty(),
-        jobs: [0; 32],
-        finished: [0; 32],
-        released: [0; 32],
-        worst: [0; 32],
+        tally: jobs::none(),
     }
 }
 
@@ -123,29 +116,15 @@ fn print_tick(tick: u64, a: Answer) {
     io::write_all(STDOUT_FILENO, b"\n");
 }
 
-// The tick in which each task let in was released, and one job more of each.
-fn admitted(run: Run, mask: u32) -> Run {
-    let mut r = run;
-    for i in 0usize..32 {
-        if (mask >> i) % 2 == 1 {
-            r.jobs[i] = sum(r.jobs[i], 1);
-            r.released[i] = r.tick;
+// The jobs behind a tick that answered a.
+fn counted(tally: Tally, tick: u64, a: Answer) -> Tally {
+    let t = jobs::admit(tally, tick, a.admitted);
+    if a.finished {
+        if 0 < a.task {
+            return jobs::complete(t, tick, a.task as usize - 1);
         }
     }
-    r
-}
-
-// A finished job of task i, from 0: its response is the number of ticks from its release to this one, both included.
-fn ended(run: Run, i: usize) -> Run {
-    let mut r = run;
-    if i < 32 {
-        let response = sum(std::num::wrapping_sub_u64(r.tick, r.released[i]), 1);
-        r.finished[i] = sum(r.finished[i], 1);
-        if r.worst[i] < response {
-            r.worst[i] = response;
-        }
-    }
-    r
+    t
 }
 
 // One tick, printed.
@@ -154,12 +133,8 @@ fn one_tick(run: Run, request: u64) -> Run {
     let t = Dispatcher::tick(d, (request / 2 % 4_294_967_296) as u32, request % 2 == 1);
     let a = t.answer;
     print_tick(run.tick, a);
-    let mut r = admitted(run, a.admitted);
-    if a.finished {
-        if 0 < a.task {
-            r = ended(r, a.task as usize - 1);
-        }
-    }
+    let mut r = run;
+    r.tally = counted(run.tally, run.tick, a);
     let next = t.next;
     r.record = next;
     r.tick = sum(r.tick, 1);
@@ -237,10 +212,11 @@ fn print_task(i: usize, jobs: u64, finished: u64, worst: u64, deadline: u32) {
 pub fn finish(run: Run) {
     let d = run.record;
     let deadline = d.deadline;
+    let t = run.tally;
     if run.ready {
         for i in 0usize..32 {
             if i < d.tasks as usize {
-                print_task(i, run.jobs[i], run.finished[i], run.worst[i], deadline[i]);
+                print_task(i, t.admitted[i], t.finished[i], t.worst[i], deadline[i]);
             }
         }
     }

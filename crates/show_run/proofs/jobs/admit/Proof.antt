@@ -1,14 +1,14 @@
--- `show_run::admitted` is safe and ends. Assumes nothing.
+-- `show_run::jobs::admit` is safe and ends. Assumes nothing.
 use Prim.Native.Nat.{_≤_, _-_}
 use borrow.Author.Needs.{needs}
-use Rattle.show_run.proofs.admitted.Statement.{statement}
-use Rattle.show_run.proofs.admitted.Tie as tie
+use Rattle.show_run.proofs.jobs.admit.Statement.{statement}
+use Rattle.show_run.proofs.jobs.admit.Tie as tie
 
 abbrev Inv-loop : tie.InvT-loop
-Inv-loop mask r₀ i₀ r i = i ≤ 32
+Inv-loop tick mask t₀ i₀ t i = i ≤ 32
 
 abbrev μ-loop : tie.MeasureT-loop
-μ-loop mask r₀ i₀ r i = 32 - i
+μ-loop tick mask t₀ i₀ t i = 32 - i
 
 loop-holds : tie.Need-loop-holds Inv-loop μ-loop
 loop-holds c = search needs
@@ -28,17 +28,17 @@ element-copy-out-sum c = search needs
 sum-requires : tie.Need-sum-requires Inv-loop μ-loop
 sum-requires c κs = search needs
 
-mul-r : tie.Need-mul-r Inv-loop μ-loop
-mul-r c = search needs
+mul-t : tie.Need-mul-t Inv-loop μ-loop
+mul-t c = search needs
 
-element-write-r : tie.Need-element-write-r Inv-loop μ-loop
-element-write-r c = search needs
+element-write-t : tie.Need-element-write-t Inv-loop μ-loop
+element-write-t c = search needs
 
-mul-r-2 : tie.Need-mul-r-2 Inv-loop μ-loop
-mul-r-2 c = search needs
+mul-t-2 : tie.Need-mul-t-2 Inv-loop μ-loop
+mul-t-2 c = search needs
 
-element-write-r-2 : tie.Need-element-write-r-2 Inv-loop μ-loop
-element-write-r-2 c = search needs
+element-write-t-2 : tie.Need-element-write-t-2 Inv-loop μ-loop
+element-write-t-2 c = search needs
 
 add-i : tie.Need-add-i Inv-loop μ-loop
 add-i c = search needs
@@ -52,5 +52,5 @@ loop-again c = search needs
 returns : tie.Need-returns Inv-loop μ-loop
 returns c = search needs
 
-pub admitted-spec : {M : Type 1} → statement M
-admitted-spec = tie.close (tie.spec Inv-loop μ-loop loop-holds cast-if1 shr-if1 mul-sum element-copy-out-sum sum-requires mul-r element-write-r mul-r-2 element-write-r-2 add-i loop-less loop-again returns)
+pub admit-spec : {M : Type 1} → statement M
+admit-spec = tie.close (tie.spec Inv-loop μ-loop loop-holds cast-if1 shr-if1 mul-sum element-copy-out-sum sum-requires mul-t element-write-t mul-t-2 element-write-t-2 add-i loop-less loop-again returns)
