@@ -38,6 +38,7 @@ fn table_a() -> [TaskLoad; 32] {
     tasks
 }
 
+// The demands of table A, then those at the edge of 64 bits.
 fn print_demands() {
     let mut tasks = table_a();
     print_demand(7, lent::demand_of(tasks, 7));
@@ -107,6 +108,7 @@ fn print_tick(tick: u64, a: Answer) {
     io::write_all(STDOUT_FILENO, b"\n");
 }
 
+// The worked run of table A, tick by tick.
 fn print_run() {
     let mut dispatcher = ready_a();
     let mut tick: u64 = 0;

@@ -62,6 +62,7 @@ fn all_ticks(run: Run, buffer: &mut [u8], have: usize) -> Run {
     r
 }
 
+// The front of the input starts the run; where it did, its ticks and its end follow.
 fn main() {
     let mut buffer = [0u8; show_run::INPUT_ROOM];
     let have = io::read_full(STDIN_FILENO, &mut buffer);

@@ -1,4 +1,5 @@
 // Runs many stored inputs of program `replay`, and prints for each what it prints. The expected output is made by the separate program in papers/.
+
 // One input, whole.
 fn run(input: &[u8]) {
     let r = show_run::begin(input);
@@ -8,6 +9,7 @@ fn run(input: &[u8]) {
     }
 }
 
+// Every case. It is told where the last was cut.
 fn main() {
     let mut buffer = io::large_buffer();
     let mut case = cases::first(&mut buffer);

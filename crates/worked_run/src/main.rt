@@ -4,6 +4,7 @@
 use answer::Outcome;
 use libc::STDOUT_FILENO;
 
+// A byte as a number, behind a space.
 fn spaced_byte(byte: u8) {
     show::spaced_number(byte as u64);
 }
@@ -32,6 +33,7 @@ fn run(letter: &[u8], table: &[u8]) {
     }
 }
 
+// The tables by their letters.
 fn main() {
     run(b"A", b"\x02\x0A\x08\x01\x02\x01\x14\x12\x01\x09\x01");
     run(b"B", b"\x02\x0A\x05\x01\x02\x01\x14\x12\x01\x09\x01");
