@@ -4,6 +4,7 @@ use dispatch::Answer;
 use lent::Demand;
 use lent::TaskLoad;
 use libc::STDOUT_FILENO;
+use records::Dispatcher;
 use show::spaced_number;
 
 // A line: the length t and the demand there, or the word that it does not fit.

@@ -7,7 +7,7 @@ ghost use mathlib.Core.Bool.{false};
 ghost use Prim.Native.Nat.{_≤_};
 ghost use lib.ListN.{length};
 use dispatch::Answer;
-use dispatch::Dispatcher;
+use records::Dispatcher;
 use groups::Number;
 use jobs::Tally;
 use jobs::sum;
@@ -130,7 +130,7 @@ fn counted(tally: Tally, tick: u64, a: Answer) -> Tally {
 // One tick, printed.
 fn one_tick(run: Run, request: u64) -> Run {
     let d = run.record;
-    let t = Dispatcher::tick(d, (request / 2 % 4_294_967_296) as u32, request % 2 == 1);
+    let t = dispatch::tick(d, (request / 2 % 4_294_967_296) as u32, request % 2 == 1);
     let a = t.answer;
     print_tick(run.tick, a);
     let mut r = run;
