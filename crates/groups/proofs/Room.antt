@@ -4,7 +4,7 @@ use mathlib.Core.Path.{_≡_}
 use mathlib.Core.List.{List}
 use lib.ListN.{length}
 use borrow.Author.Tests.{le-leb, lt-leb, lt-ltb, le-ltb}
-use Rattle.groups.specs.declared.Written.the-variants.{To, TooLarge, NoRoom}
+use Rattle.groups.specs.declared.NumberWritten.the-variants.{To, TooLarge, NoRoom}
 use Rattle.groups.specs.Encode.{encode}
 use Rattle.groups.specs.Write.{writtenOf}
 

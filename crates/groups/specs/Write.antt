@@ -4,19 +4,19 @@ use mathlib.Core.List.{List, _++_}
 use lib.ListN.{length, take, drop}
 use lib.Dec.{leb, ltb}
 use Rattle.finite.specs.If.{if_then_else_}
-use Rattle.groups.specs.declared.Written.{Written}
-use Rattle.groups.specs.declared.Written.the-variants.{To, TooLarge, NoRoom}
+use Rattle.groups.specs.declared.NumberWritten.{NumberWritten}
+use Rattle.groups.specs.declared.NumberWritten.the-variants.{To, TooLarge, NoRoom}
 use Rattle.groups.specs.Encode.{encode}
 
 -- the place behind the number: eight groups hold what is below 2 ^ 56, and its bytes end within the buffer
-abbrev pub writtenOf : (buffer : List ℕ) (at value : ℕ) → Written
+abbrev pub writtenOf : (buffer : List ℕ) (at value : ℕ) → NumberWritten
 writtenOf buffer at value =
     if leb (2 ^ 56) value then TooLarge
     else if ltb (length buffer) (at + length (encode value)) then NoRoom
     else To (at + length (encode value))
 
 -- the number's bytes from `at` on, and every other byte as found; where it was not written, every byte as found
-abbrev pub leftBy : Written → (buffer : List ℕ) (at value : ℕ) → List ℕ
+abbrev pub leftBy : NumberWritten → (buffer : List ℕ) (at value : ℕ) → List ℕ
 leftBy (To next) buffer at value = take at buffer ++ encode value ++ drop (at + length (encode value)) buffer
 leftBy TooLarge buffer at value = buffer
 leftBy NoRoom buffer at value = buffer

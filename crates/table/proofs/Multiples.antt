@@ -14,7 +14,7 @@ use Rattle.finite.specs.Finite.{Below, sumTo}
 use Rattle.finite.specs.laws.Tests.{cond-true, cond-false, eqb-decides, failed, le-or-lt}
 use Rattle.model.specs.TestPoints.{gcd, gcdIn, lcm, lcmTo}
 use Rattle.model.specs.laws.Lcm.{Multiple, gcd-ok, lcm-ok, lcmTo-ok}
-use Rattle.table.specs.Horizon.{within, Spacings}
+use Rattle.table.specs.Horizon.{zeroAbove, Spacings}
 
 -- ---- the greatest common divisor
 
@@ -53,13 +53,13 @@ module _ (limit a b : ℕ) {g : ℕ} (pos : 0 < b) (is : g ≡ gcd a b) where
   pub product-fits : a / g ≤ limit / b → a / g * b ≤ limit
   product-fits l = le-div-iff-mul-le pos .0 l
 
-  pub within-under : a / g ≤ limit / b → a / g * b ≡ within limit (lcm a b)
+  pub within-under : a / g ≤ limit / b → a / g * b ≡ zeroAbove limit (lcm a b)
   unfolding lcm
   within-under l =
       ap (λ (d : ℕ). a / d * b) is
       ∙ sym (cond-false (ltb limit (a / gcd a b * b)) 0 _ (le-ltb limit (a / gcd a b * b) (le-div-iff-mul-le pos .0 (subst (λ (d : ℕ). a / d ≤ limit / b) is l))))
 
-  pub within-above : limit / b < a / g → 0 ≡ within limit (lcm a b)
+  pub within-above : limit / b < a / g → 0 ≡ zeroAbove limit (lcm a b)
   unfolding lcm
   within-above l = sym (cond-true (ltb limit (a / gcd a b * b)) 0 _ (lt-ltb limit (a / gcd a b * b) (div-lt-iff-lt-mul pos .0 (subst (λ (d : ℕ). limit / b < a / d) is l))))
 
@@ -68,7 +68,7 @@ pub record Under (limit v r : ℕ) : Type 0 where
   pub same : r ≡ v
   pub most : v ≤ limit
 
-module _ (limit v r : ℕ) (is : r ≡ within limit v) where
+module _ (limit v r : ℕ) (is : r ≡ zeroAbove limit v) where
   pub was-above : 1 ≤ v → r ≡ 0 → limit < v
   was-above pos z = go (le-or-lt v limit)
     where
@@ -123,9 +123,9 @@ module _ {ts : List ℕ} {n : ℕ} (sp : Spacings ts n) where
     both : lcm h t ≡ lcmTo (i + 1) (λ k. getD ts k 0)
     both = rw (so-far, here) (sym (lcmTo-more (λ k. getD ts k 0) i))
 
-    module _ (limit : ℕ) {l : ℕ} (is : l ≡ within limit (lcm h t)) where
+    module _ (limit : ℕ) {l : ℕ} (is : l ≡ zeroAbove limit (lcm h t)) where
       -- where one spacing more takes it above the limit, all do
-      pub horizon-above : l ≡ 0 → 0 ≡ within limit (lcmTo n (λ k. getD ts k 0))
+      pub horizon-above : l ≡ 0 → 0 ≡ zeroAbove limit (lcmTo n (λ k. getD ts k 0))
       horizon-above z =
           let above = was-above limit (lcm h t) l is (lcm-ok h t horizon-positive spacing-positive .positive) z in
           let grows = lcmTo-grows (λ k. getD ts k 0) n (i + 1) (sp .least) (omega arith) in
@@ -134,7 +134,7 @@ module _ {ts : List ℕ} {n : ℕ} (sp : Spacings ts n) where
       pub horizon-more : (l ≡ 0 → ⊥) → (l ≡ lcmTo (i + 1) (λ k. getD ts k 0)) × (l ≤ limit)
       horizon-more some = let u = was-under limit (lcm h t) l is some in (u .same ∙ both, omega (arith, u .same, u .most))
 
-  pub horizon-done : {i h : ℕ} (limit : ℕ) → i ≡ n → h ≡ lcmTo i (λ k. getD ts k 0) → h ≤ limit → h ≡ within limit (lcmTo n (λ k. getD ts k 0))
+  pub horizon-done : {i h : ℕ} (limit : ℕ) → i ≡ n → h ≡ lcmTo i (λ k. getD ts k 0) → h ≤ limit → h ≡ zeroAbove limit (lcmTo n (λ k. getD ts k 0))
   horizon-done {i} {h} limit all so-far most =
       let e : h ≡ lcmTo n (λ k. getD ts k 0) = so-far ∙ ap (λ (m : ℕ). lcmTo m (λ k. getD ts k 0)) all in
       e ∙ sym (cond-false (ltb limit (lcmTo n (λ k. getD ts k 0))) 0 _ (le-ltb limit (lcmTo n (λ k. getD ts k 0)) (omega (arith, e))))

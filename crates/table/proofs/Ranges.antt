@@ -11,15 +11,15 @@ use Rattle.finite.specs.Finite.{sumTo}
 use Rattle.model.specs.TestPoints.{lcmTo, horizonOf}
 use Rattle.model.specs.laws.Lcm.{lcmTo-ok}
 use Rattle.table.specs.declared.Table.{Table}
-use Rattle.table.specs.declared.Outcome.the-variants.{Read}
+use Rattle.table.specs.declared.ReadOutcome.the-variants.{Read}
 use Rattle.table.specs.declared.Reading.{Reading}
-use Rattle.table.specs.Horizon.{within, Spacings}
+use Rattle.table.specs.Horizon.{zeroAbove, Spacings}
 use Rattle.table.specs.Parse.{away, readingOf}
 use Rattle.table.specs.Steps.{limited}
 use Rattle.table.specs.TaskModel.{tasksOf, jobsWithin}
 use Rattle.table.proofs.Multiples.{Under, was-above, was-under}
 
-module _ (t : Table) {h : ℕ} (is : h ≡ within 1_000_000_000_000 (lcmTo (t .tasks) (λ i. getD (t .spacing) i 0))) where
+module _ (t : Table) {h : ℕ} (is : h ≡ zeroAbove 1_000_000_000_000 (lcmTo (t .tasks) (λ i. getD (t .spacing) i 0))) where
   pub limited-far : Spacings (t .spacing) (t .tasks) → h ≡ 0 → (s : List ℕ) (at : ℕ) → limited t s at ≡ away 6 0
   unfolding limited horizonOf
   limited-far sp z s at =

@@ -7,8 +7,8 @@ use lib.Dec.{ltb}
 use Rattle.finite.specs.If.{if_then_else_}
 
 -- the number, or 0 where it is above the limit
-abbrev pub within : (limit : ℕ) → ℕ → ℕ
-within limit v = if ltb limit v then 0 else v
+abbrev pub zeroAbove : (limit : ℕ) → ℕ → ℕ
+zeroAbove limit v = if ltb limit v then 0 else v
 
 -- n spacings that stand in an array of 32, each at least 1
 pub record Spacings (ts : List ℕ) (n : ℕ) : Type 0 where

@@ -6,7 +6,7 @@ use mathlib.Core.List.{List}
 use Rattle.table.specs.declared.Table.{Table}
 use Rattle.table.specs.declared.Step.{Step}
 use Rattle.table.specs.declared.Step.the-variants.{Value as Stepped, Away}
-use Rattle.table.specs.declared.Outcome.the-variants.{TurnedAway}
+use Rattle.table.specs.declared.ReadOutcome.the-variants.{TurnedAway}
 use Rattle.table.specs.declared.Reading.{Reading}
 use Rattle.table.specs.Parser.{Result, got, away, Parser, _>>_, done}
 use Rattle.table.specs.Parse.{empty, horizonInRange, jobsInRange}

@@ -4,8 +4,9 @@ ghost use mathlib.Core.Path.{_≡_};
 ghost use Prim.Native.Nat.{_/_, _≤_, _<_};
 ghost use lib.ListN.{getD};
 ghost use Rattle.finite.specs.Finite.{sumTo};
+ghost use Rattle.model.specs.Limits.{horizonMost};
 ghost use Rattle.model.specs.TestPoints.{gcd, lcm, lcmTo};
-ghost use Rattle.table.specs.Horizon.{within, Spacings};
+ghost use Rattle.table.specs.Horizon.{zeroAbove, Spacings};
 
 fn wide(x: u32) -> u64
     ensures { λ r. ⌜ r ≡ x ⌝ }
@@ -23,7 +24,7 @@ fn gcd(a: u64, b: u64) -> u64
 // The least common multiple, or 0 where it is above the horizon's limit. The product is formed only where it fits.
 fn lcm_within(a: u64, b: u64) -> u64
     requires { ⌜ (0 < a) × (0 < b) ⌝ }
-    ensures { λ r. ⌜ r ≡ within 1_000_000_000_000 (lcm a b) ⌝ }
+    ensures { λ r. ⌜ r ≡ zeroAbove horizonMost (lcm a b) ⌝ }
 {
     let k = a / gcd(a, b);
     if Table::HORIZON_MOST / b < k {
@@ -36,7 +37,7 @@ fn lcm_within(a: u64, b: u64) -> u64
 // The horizon of the first n spacings, or 0 where it is above its limit. (A layer's own call: the reader has tested the spacings.)
 pub fn horizon(n: usize, spacing: &[u32; 32]) -> u64
     requires { ⌜ Spacings (now spacing) n ⌝ }
-    ensures { λ r. ⌜ r ≡ within 1_000_000_000_000 (lcmTo n (λ i. getD (now (spacing .entry)) i 0)) ⌝ }
+    ensures { λ r. ⌜ r ≡ zeroAbove horizonMost (lcmTo n (λ i. getD (now (spacing .entry)) i 0)) ⌝ }
 {
     let mut h: u64 = 1;
     let mut i: usize = 0;
@@ -51,9 +52,9 @@ pub fn horizon(n: usize, spacing: &[u32; 32]) -> u64
     h
 }
 
-// The sum of h over each of the first n spacings. (A layer's own call: h is a horizon within its limit.)
+// The sum of h over each of the first n spacings. (A layer's own call: h is a horizon zeroAbove its limit.)
 pub fn jobs_within(n: usize, h: u64, spacing: &[u32; 32]) -> u64
-    requires { ⌜ Spacings (now spacing) n × (h ≤ 1_000_000_000_000) ⌝ }
+    requires { ⌜ Spacings (now spacing) n × (h ≤ horizonMost) ⌝ }
     ensures { λ r. ⌜ r ≡ sumTo n (λ i. h / getD (now (spacing .entry)) i 0) ⌝ }
 {
     let mut sum: u64 = 0;
