@@ -45,3 +45,7 @@ module _ {A : Type 0} (b : Bool) (reason place at next : ℕ) (p : Parser A) (s 
       go : (x : Bool) → andThen (if x then away reason place else got tt at) (λ (u : Unit {0}). p) s ≡ got a next → (x ≡ false) × (p s at ≡ got a next)
       go true e = absurd (never e)
       go false e = (refl, e)
+
+pub not-met : {A : Type 0} (b : Bool) (reason place at : ℕ) (u : A) {next : ℕ} {v : A} → (if b then away reason place else got u at) ≡ got v next → b ≡ false
+not-met true reason place at u e = absurd (never e)
+not-met false reason place at u e = refl

@@ -1,38 +1,81 @@
--- What the reader's own functions answer, from one number on: the results of the parts, as steps. (Nobody need believe these: `Parse` alone
--- says what `table::read` answers.) Assumes nothing.
-use Prim.Native.Nat.{ℕ}
+-- What the reader's own functions answer, from one number on. (Nobody need believe these: `Parse` alone says what the public calls answer.)
+-- Assumes nothing.
+use Prim.Native.Nat.{ℕ, _-_, _*_, _≤_}
 use mathlib.Core.Path.{_≡_}
 use mathlib.Core.List.{List}
+use lib.Dec.{eqb}
+use Rattle.finite.specs.If.{if_then_else_}
+use Rattle.model.specs.Limits.{costMost, phasesMost, spacingMost, workMost}
 use Rattle.table.specs.declared.Table.{Table}
-use Rattle.table.specs.declared.Step.{Step}
-use Rattle.table.specs.declared.Step.the-variants.{Value as Stepped, Away}
-use Rattle.table.specs.declared.ReadOutcome.the-variants.{TurnedAway}
+use Rattle.table.specs.declared.items.Step.{Step}
+use Rattle.table.specs.declared.items.NumberRead.{NumberRead}
+use Rattle.table.specs.declared.items.PhaseRead.{PhaseRead}
+use Rattle.table.specs.declared.items.HeadRead.{HeadRead}
 use Rattle.table.specs.declared.Reading.{Reading}
-use Rattle.table.specs.Parser.{Result, got, away, Parser, _>>_, done}
-use Rattle.table.specs.Parse.{empty, horizonInRange, jobsInRange}
-use Rattle.table.specs.TaskModel.{tasksOf}
+use Rattle.table.specs.declared.ReadOutcome.{ReadOutcome}
+use Rattle.table.specs.declared.ReadOutcome.the-variants.{Read, TurnedAway}
+use Rattle.table.specs.Parser.{Result, got, away, Parser}
+use Rattle.table.specs.Parse.{empty, numberIn, each, phase, task, nothingBehind, withPhase, withTask}
 
-abbrev pub stepOf : Result ℕ → Step
-stepOf (got v next) = Stepped v next
-stepOf (away reason place) = Away reason place
+-- A step is a reason and a place. What was read up to a step, and what is read from it on:
+abbrev pub readTo : {A : Type 0} → (reason place : ℕ) → A → Result A
+readTo reason place a = if eqb reason 0 then got a place else away reason place
 
--- the table of so many tasks that stands in five arrays
-abbrev pub arrays : (n : ℕ) (spacing deadline phases work cost : List ℕ) → Table
-arrays n spacing deadline phases work cost = record { tasks = n; spacing = spacing; deadline = deadline; phases = phases; work = work; cost = cost }
+abbrev pub readFrom : {A : Type 0} → (reason place : ℕ) → Parser A → List ℕ → Result A
+readFrom reason place p bytes = if eqb reason 0 then p bytes place else away reason place
 
--- A step says what reading gives: where it is a value, the table that the arrays now hold, and otherwise the reason and the place.
-pub record Fills (x : Result Table) (step : Step) (now : Table) : Type 0 where
-  pub filled : (v next : ℕ) → step ≡ Stepped v next → x ≡ got now next
-  pub turned : (reason place : ℕ) → step ≡ Away reason place → x ≡ away reason place
+-- a part is read, from a step up to a step
+pub record Reads {A : Type 0} (bytes : List ℕ) (reason place : ℕ) (p : Parser A) (reason′ place′ : ℕ) (a : A) : Type 0 where
+  pub is : readFrom reason place p bytes ≡ readTo reason′ place′ a
 
--- a step that turned the table away, as an answer (one that did not is never asked)
-abbrev pub awayOf : Step → Reading
-awayOf (Stepped v next) = record { outcome = TurnedAway 0 next; table = empty }
-awayOf (Away reason place) = record { outcome = TurnedAway reason place; table = empty }
+-- to read a part from a step is to read another from another step
+pub record Leaves {A : Type 0} (bytes : List ℕ) (reason place : ℕ) (p : Parser A) (reason′ place′ : ℕ) (q : Parser A) : Type 0 where
+  pub is : readFrom reason place p bytes ≡ readFrom reason′ place′ q bytes
 
--- the last two tests, of a table whose bytes were read
-unfoldable pub limited : Table → Parser Table
-limited t = do
-  horizonInRange (tasksOf t)
-  jobsInRange (tasksOf t)
-  done t
+-- no number: turned away
+abbrev pub awayAt : (reason place : ℕ) → NumberRead
+awayAt reason place = record { reason = reason; place = place; value = 0 }
+
+-- a number, at a place and from a step on
+pub record NumberAt (bytes : List ℕ) (at least most : ℕ) (r : NumberRead) : Type 0 where
+  pub is : numberIn least most bytes at ≡ readTo (r .reason) (r .place) (r .value)
+  pub high : r .value ≤ most
+
+pub record NumberFrom (bytes : List ℕ) (reason place least most : ℕ) (r : NumberRead) : Type 0 where
+  pub reads : Reads bytes reason place (numberIn least most) (r .reason) (r .place) (r .value)
+  pub high : r .value ≤ most
+
+-- the numbers of a phase, put at any place of any table
+pub record PhaseFrom (bytes : List ℕ) (reason place : ℕ) (r : PhaseRead) : Type 0 where
+  pub reads : (k : ℕ) (t : Table) → Reads bytes reason place (phase k t) (r .reason) (r .place) (withPhase k (r .work) (r .cost) t)
+
+-- the numbers of a task, put as those of any task of any table: its phases are left
+pub record HeadFrom (bytes : List ℕ) (reason place : ℕ) (r : HeadRead) : Type 0 where
+  pub leaves : (i : ℕ) (t : Table)
+      → Leaves bytes reason place (task i t) (r .reason) (r .place) (each phase (r .phases) (8 * i) (withTask i (r .spacing) (r .deadline) (r .phases) t))
+  pub few : r .phases ≤ phasesMost
+
+-- a table with other arrays for the phases
+abbrev pub phaseArrays : (work cost : List ℕ) → Table → Table
+phaseArrays work cost t = record { tasks = t .tasks; spacing = t .spacing; deadline = t .deadline; phases = t .phases; work = work; cost = cost }
+
+-- the table of so many tasks that stands in arrays
+abbrev pub arrays : (spacing deadline phases work cost : List ℕ) → ℕ → Table
+arrays spacing deadline phases work cost n = record { tasks = n; spacing = spacing; deadline = deadline; phases = phases; work = work; cost = cost }
+
+-- the phases from a place up to another, put into any table
+pub record PhasesFrom (bytes : List ℕ) (reason place first last : ℕ) (before after : Table → Table) (r : Step) : Type 0 where
+  pub reads : (t : Table) → Reads bytes reason place (each phase (last - first) first (before t)) (r .reason) (r .place) (after t)
+
+-- so many tasks
+pub record TasksFrom (bytes : List ℕ) (reason place count : ℕ) (before after : ℕ → Table) (r : Step) : Type 0 where
+  pub reads : (n : ℕ) → Reads bytes reason place (each task count 0 (before n)) (r .reason) (r .place) (after n)
+
+-- nothing behind
+pub record EndFrom (bytes : List ℕ) (reason place : ℕ) (r : Step) : Type 0 where
+  pub reads : Reads bytes reason place nothingBehind (r .reason) (r .place) tt
+
+-- a table beside what its limits say
+unfoldable pub limitedBy : ReadOutcome → Table → Reading
+limitedBy (Read h) t = record { outcome = Read h; table = t }
+limitedBy (TurnedAway reason place) t = record { outcome = TurnedAway reason place; table = empty }

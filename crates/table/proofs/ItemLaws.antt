@@ -1,0 +1,140 @@
+-- The items of a table, by what the functions below each answer: a number, a phase, a task, the end, the whole.
+-- Assumes nothing.
+use Prim.Native.Nat.{ℕ, _*_, _≤_, _<_}
+use mathlib.Core.Path.{_≡_, refl, ap, sym, _∙_}
+use mathlib.Core.List.{List}
+use mathlib.Core.Bool.{false}
+use native.Mathlib.Omega.{arith}
+use lib.ListN.{length, replicate}
+use lib.Dec.{eqb}
+use borrow.Author.Tests.{eq-eqb, ne-eqb, lt-ltb, le-ltb}
+use Rattle.groups.specs.declared.Number.the-variants.{Value, Ends, Malformed}
+use Rattle.groups.specs.Number.{numberAt}
+use Rattle.model.specs.Limits.{costMost, phasesMost, spacingMost, tasksMost, workMost}
+use Rattle.table.specs.declared.Table.{Table}
+use Rattle.table.specs.declared.ParseOutcome.the-variants.{Parsed, TurnedAway}
+use Rattle.table.specs.declared.Parsing.{Parsing}
+use Rattle.table.specs.declared.Reading.{Reading}
+use Rattle.table.specs.declared.ReadOutcome.the-variants.{TurnedAway as Refused}
+use Rattle.table.specs.declared.items.NumberRead.{NumberRead}
+use Rattle.table.specs.Parse.{Result, got, away, numberIn, each, phase, task, nothingBehind, numbers, table, empty, withPhase, withTask, parsedOf, limitOf, readingOf}
+use Rattle.table.specs.Steps.{readTo, awayAt, arrays, limitedBy, Reads, Leaves, NumberAt, NumberFrom, EndFrom}
+use Rattle.table.specs.TaskModel.{tasksOf}
+use Rattle.table.specs.Valid.{InRange}
+use Rattle.table.proofs.Ranges.{limited-reading}
+use Rattle.table.proofs.Steps.{next, go-on, then-done}
+use Rattle.table.proofs.Valid.{numbers-in-range}
+
+-- ---- a number
+
+module _ (bytes : List ℕ) (at least most : ℕ) where
+  pub ends : numberAt bytes at ≡ Ends → numberIn least most bytes at ≡ away 2 (length bytes)
+  unfolding numberIn
+  ends e = rw e
+
+  pub malformed : numberAt bytes at ≡ Malformed → numberIn least most bytes at ≡ away 3 at
+  unfolding numberIn
+  malformed e = rw e
+
+  module _ {v next : ℕ} (e : numberAt bytes at ≡ Value v next) where
+    pub below : v < least → numberIn least most bytes at ≡ away 4 at
+    unfolding numberIn
+    below h = rw (e, lt-ltb v least h)
+
+    module _ (low : least ≤ v) where
+      pub above : most < v → numberIn least most bytes at ≡ away 4 at
+      unfolding numberIn
+      above h = rw (e, le-ltb v least low, lt-ltb most v h)
+
+      pub inside : v ≤ most → NumberAt bytes at least most (record { reason = 0; place = next; value = v })
+      unfolding numberIn
+      inside h = record { is = rw (e, le-ltb v least low, le-ltb most v h); high = h }
+
+  pub turned-away : {r : NumberRead} (reason : ℕ) {place : ℕ} → eqb reason 0 ≡ false → numberIn least most bytes at ≡ away reason place → r ≡ awayAt reason place
+      → NumberAt bytes at least most r
+  turned-away reason some e is = rw is (record { is = rw some e; high = omega arith })
+
+module _ {bytes : List ℕ} {reason place least most : ℕ} {r : NumberRead} where
+  pub number-due : reason ≡ 0 → NumberAt bytes place least most r → NumberFrom bytes reason place least most r
+  number-due z n = record { reads = record { is = rw (eq-eqb reason 0 z) (n .is) }; high = n .high }
+
+  pub number-away : (reason ≡ 0 → ⊥) → r ≡ awayAt reason place → NumberFrom bytes reason place least most r
+  number-away some is = rw is (record { reads = record { is = rw (ne-eqb reason 0 some) }; high = omega arith })
+
+-- ---- a phase, a task
+
+module _ {bytes : List ℕ} {reason place : ℕ} where
+  pub phase-by : {rc pc rq pq work cost : ℕ} (k : ℕ) (t : Table)
+      → Reads bytes reason place (numberIn 1 workMost) rc pc work
+      → Reads bytes rc pc (numberIn 0 costMost) rq pq cost
+      → Reads bytes reason place (phase k t) rq pq (withPhase k work cost t)
+  unfolding phase
+  phase-by k t c q = then-done _ (go-on (next _ _ c) (next _ _ q))
+
+  pub head-by : {rt pt rd pd rm pm spacing deadline count : ℕ} (i : ℕ) (t : Table)
+      → Reads bytes reason place (numberIn 1 spacingMost) rt pt spacing
+      → Reads bytes rt pt (numberIn 1 spacing) rd pd deadline
+      → Reads bytes rd pd (numberIn 1 phasesMost) rm pm count
+      → Leaves bytes reason place (task i t) rm pm (each phase count (8 * i) (withTask i spacing deadline count t))
+  unfolding task
+  head-by i t T D m = go-on (next _ _ T) (go-on (next _ _ D) (next _ _ m))
+
+-- ---- the end, and the whole
+
+module _ {bytes : List ℕ} {reason place : ℕ} where
+  pub end-behind : reason ≡ 0 → place < length bytes → EndFrom bytes reason place (record { reason = 5; place = place })
+  end-behind z h = record { reads = record { is = rw (eq-eqb reason 0 z, lt-ltb place (length bytes) h) } }
+
+  pub end-here : reason ≡ 0 → length bytes ≤ place → EndFrom bytes reason place (record { reason = reason; place = place })
+  end-here z h = record { reads = record { is = rw (eq-eqb reason 0 z, le-ltb place (length bytes) h) } }
+
+  pub end-away : (reason ≡ 0 → ⊥) → EndFrom bytes reason place (record { reason = reason; place = place })
+  end-away some = record { reads = record { is = rw (ne-eqb reason 0 some) } }
+
+pub numbers-by : {bytes : List ℕ} {rn pn count rt pt re pe : ℕ} {t : Table}
+    → Reads bytes 0 0 (numberIn 1 tasksMost) rn pn count
+    → Reads bytes rn pn (each task count 0 (arrays (replicate 32 0) (replicate 32 0) (replicate 32 0) (replicate 256 0) (replicate 256 0) count)) rt pt t
+    → Reads bytes rt pt nothingBehind re pe tt
+    → readTo re pe t ≡ numbers bytes 0
+unfolding numbers empty
+numbers-by n ts e = sym (then-done _ (go-on (next _ _ n) (go-on (next _ _ ts) (next _ (λ u. _) e))) .is)
+
+-- the last step, as an answer
+module _ (reason place : ℕ) (t : Table) where
+  pub parsed-all : reason ≡ 0 → _≡_ {A = Parsing} (record { outcome = Parsed; table = t }) (parsedOf (readTo reason place t))
+  parsed-all z = rw (eq-eqb reason 0 z)
+
+  pub parsed-away : (reason ≡ 0 → ⊥) → {u : Table} → u ≡ empty → _≡_ {A = Parsing} (record { outcome = TurnedAway reason place; table = u }) (parsedOf (readTo reason place t))
+  parsed-away some e = rw (ne-eqb reason 0 some, e)
+
+-- what a caller of `parse` learns of its outcome
+pub was-parsed : (x : Result Table) {p : Parsing} → p ≡ parsedOf x → p .outcome ≡ Parsed → (next : ℕ) × (x ≡ got (p .table) next)
+was-parsed (got t next) e o = (next, ap (λ (u : Table). got u next) (ap (λ (g : Parsing). g .table) (sym e)))
+was-parsed (away reason place) {p} e o =
+    let same : TurnedAway reason place ≡ Parsed = sym (ap (λ (g : Parsing). g .outcome) e) ∙ o in
+    let z : _≡_ {A = ℕ} 0 1 = cc in
+    absurd (omega arith)
+
+pub was-not-parsed : (x : Result Table) {p : Parsing} {reason place : ℕ} → p ≡ parsedOf x → p .outcome ≡ TurnedAway reason place
+    → (x ≡ away reason place) × (p .table ≡ empty)
+was-not-parsed (got t next) {p} {reason} {place} e o =
+    let same : Parsed ≡ TurnedAway reason place = sym (ap (λ (g : Parsing). g .outcome) e) ∙ o in
+    let z : _≡_ {A = ℕ} 0 1 = cc in
+    absurd (omega arith)
+was-not-parsed (away reason′ place′) {p} {reason} {place} e o =
+    let same : TurnedAway reason′ place′ ≡ TurnedAway reason place = sym (ap (λ (g : Parsing). g .outcome) e) ∙ o in
+    (cc, ap (λ (g : Parsing). g .table) e)
+
+-- reading is parsing, and then the limits
+module _ (bytes : List ℕ) {p : Parsing} (is : p ≡ parsedOf (numbers bytes 0)) where
+  pub parsed-in-range : p .outcome ≡ Parsed → InRange (p .table)
+  parsed-in-range o = let (next, e) = was-parsed (numbers bytes 0) is o in numbers-in-range bytes 0 (p .table) next e
+
+  pub read-on : p .outcome ≡ Parsed → limitedBy (limitOf (tasksOf (p .table))) (p .table) ≡ readingOf (table bytes 0)
+  unfolding table
+  read-on o = let (next, e) = was-parsed (numbers bytes 0) is o in rw e (sym (limited-reading (p .table) bytes next))
+
+  pub read-away : {reason place : ℕ} → p .outcome ≡ TurnedAway reason place
+      → _≡_ {A = Reading} (record { outcome = Refused reason place; table = p .table }) (readingOf (table bytes 0))
+  unfolding table
+  read-away o = let (e, none) = was-not-parsed (numbers bytes 0) is o in rw (e, none)
