@@ -185,6 +185,9 @@ pub fn tasks(
     let mut step = Step { reason, place };
     let mut i: usize = 0;
     while i < count {
+        if step.reason != 0 {
+            return step;
+        }
         let h = head(bytes, step.reason, step.place);
         spacings[i] = h.spacing;
         deadlines[i] = h.deadline;

@@ -5,7 +5,7 @@ use native.Mathlib.Nat.{sub-zero}
 use borrow.Author.Needs.{needs}
 use Rattle.table.specs.Parse.{each, task}
 use Rattle.table.specs.Steps.{arrays, Leaves}
-use Rattle.table.proofs.Steps.{go-on, and-reads, again, finish, phases-of}
+use Rattle.table.proofs.Steps.{go-on, and-reads, stays, again, finish, phases-of}
 use Rattle.table.proofs.items.tasks.Statement.{statement}
 use Rattle.table.proofs.items.tasks.Tie as tie
 
@@ -18,6 +18,9 @@ abbrev μ-loop : tie.MeasureT-loop
 
 loop-holds : tie.Need-loop-holds Inv-loop μ-loop
 loop-holds c = λ n. rw sub-zero (record { is = refl })
+
+returns : tie.Need-returns Inv-loop μ-loop
+returns c = record { reads = λ n. and-reads (c .before .before .before .loop .inv n) (stays (c .if1 .taken)) }
 
 head-requires : tie.Need-head-requires Inv-loop μ-loop
 head-requires c κs = search needs
@@ -64,15 +67,15 @@ loop-less c = search needs
 loop-again : tie.Need-loop-again Inv-loop μ-loop
 loop-again c = λ n.
     let h = c .before .before .before .before in
-    let l = h .before in
+    let l = h .before .before .before in
     go-on (l .before .loop .inv n)
     (again task _ _ _ (l .loop-test .taken) (and-reads (h .head .ensures .leaves _ _) (phases-of _ _ _ (c .phases .ensures))))
 
-returns : tie.Need-returns Inv-loop μ-loop
-returns c = record { reads = λ n. and-reads (c .before .loop .inv n) (finish task _ _ _ (c .loop-test .left)) }
+returns-2 : tie.Need-returns-2 Inv-loop μ-loop
+returns-2 c = record { reads = λ n. and-reads (c .before .loop .inv n) (finish task _ _ _ (c .loop-test .left)) }
 
 pub tasks-spec : {M : Type 1} → statement M
 tasks-spec =
     tie.close
-    (tie.spec Inv-loop μ-loop loop-holds head-requires mul-spacings element-write-spacings mul-deadlines element-write-deadlines mul-sizes
-    element-write-sizes mul-phases mul-phases-2 cast-phases add-phases phases-requires add-i loop-less loop-again returns)
+    (tie.spec Inv-loop μ-loop loop-holds returns head-requires mul-spacings element-write-spacings mul-deadlines element-write-deadlines mul-sizes
+    element-write-sizes mul-phases mul-phases-2 cast-phases add-phases phases-requires add-i loop-less loop-again returns-2)
