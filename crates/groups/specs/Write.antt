@@ -1,6 +1,7 @@
 -- DEFINITIONS. What `groups::write` answers, and what it leaves in the buffer. Assumes nothing.
 use Prim.Native.Nat.{ℕ, _+_, _^_}
 use mathlib.Core.List.{List, _++_}
+use mathlib.Core.Path.{_≡_}
 use lib.ListN.{length, take, drop}
 use lib.Dec.{leb, ltb}
 use Rattle.finite.specs.If.{if_then_else_}
@@ -20,3 +21,8 @@ abbrev pub leftBy : NumberWritten → (buffer : List ℕ) (at value : ℕ) → L
 leftBy (To next) buffer at value = take at buffer ++ encode value ++ drop (at + length (encode value)) buffer
 leftBy TooLarge buffer at value = buffer
 leftBy NoRoom buffer at value = buffer
+
+-- what writing a number answers and leaves
+pub record WritesNumber (before after : List ℕ) (at value : ℕ) (r : NumberWritten) : Type 0 where
+  pub answer : r ≡ writtenOf before at value
+  pub left : after ≡ leftBy r before at value
