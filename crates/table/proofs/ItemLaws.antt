@@ -3,11 +3,10 @@
 use Prim.Native.Nat.{ℕ, _*_, _≤_, _<_}
 use mathlib.Core.Path.{_≡_, refl, ap, sym, _∙_}
 use mathlib.Core.List.{List}
-use mathlib.Core.Bool.{false}
 use native.Mathlib.Omega.{arith}
 use lib.ListN.{length, replicate}
-use lib.Dec.{eqb}
 use borrow.Author.Tests.{eq-eqb, ne-eqb, lt-ltb, le-ltb}
+use Rattle.groups.specs.declared.Number.{Number}
 use Rattle.groups.specs.declared.Number.the-variants.{Value, Ends, Malformed}
 use Rattle.groups.specs.Number.{numberAt}
 use Rattle.model.specs.Limits.{costMost, phasesMost, spacingMost, tasksMost, workMost}
@@ -17,8 +16,8 @@ use Rattle.table.specs.declared.Parsing.{Parsing}
 use Rattle.table.specs.declared.Reading.{Reading}
 use Rattle.table.specs.declared.ReadOutcome.the-variants.{TurnedAway as Refused}
 use Rattle.table.specs.declared.items.NumberRead.{NumberRead}
-use Rattle.table.specs.Parse.{Result, got, away, numberIn, each, phase, task, nothingBehind, numbers, table, empty, withPhase, withTask, parsedOf, limitOf, readingOf}
-use Rattle.table.specs.Steps.{readTo, awayAt, arrays, limitedBy, Reads, Leaves, NumberAt, NumberFrom, EndFrom}
+use Rattle.table.specs.Parse.{Result, got, away, tested, numberIn, each, phase, task, nothingBehind, numbers, table, empty, withPhase, withTask, parsedOf, limitOf, readingOf}
+use Rattle.table.specs.Steps.{readTo, awayAt, arrays, limitedBy, Reads, Leaves, Ranged, NumberAt, NumberFrom, EndFrom}
 use Rattle.table.specs.TaskModel.{tasksOf}
 use Rattle.table.specs.Valid.{InRange}
 use Rattle.table.proofs.Ranges.{limited-reading}
@@ -27,32 +26,29 @@ use Rattle.table.proofs.Valid.{numbers-in-range}
 
 -- ---- a number
 
-module _ (bytes : List ℕ) (at least most : ℕ) where
-  pub ends : numberAt bytes at ≡ Ends → numberIn least most bytes at ≡ away 2 (length bytes)
+module _ {at value place least most : ℕ} where
+  pub below : {r : NumberRead} → value < least → r ≡ awayAt 4 at → Ranged at value place least most r
+  below h is = rw is (record { is = λ bytes. rw (lt-ltb value least h); high = omega arith })
+
+  module _ (low : least ≤ value) where
+    pub above : {r : NumberRead} → most < value → r ≡ awayAt 4 at → Ranged at value place least most r
+    above h is = rw is (record { is = λ bytes. rw (le-ltb value least low, lt-ltb most value h); high = omega arith })
+
+    pub inside : value ≤ most → Ranged at value place least most (record { reason = 0; place = place; value = value })
+    inside h = record { is = λ bytes. rw (le-ltb value least low, le-ltb most value h); high = h }
+
+module _ {bytes : List ℕ} {at least most : ℕ} {x : Number} (is : x ≡ numberAt bytes at) {r : NumberRead} where
+  pub number-found : {value place : ℕ} → x ≡ Value value place → Ranged at value place least most r → NumberAt bytes at least most r
   unfolding numberIn
-  ends e = rw e
+  number-found e n = record { is = ap (λ (y : Number). tested least most y bytes at) (sym is ∙ e) ∙ n .is bytes; high = n .high }
 
-  pub malformed : numberAt bytes at ≡ Malformed → numberIn least most bytes at ≡ away 3 at
+  pub number-ends : x ≡ Ends → r ≡ awayAt 2 (length bytes) → NumberAt bytes at least most r
   unfolding numberIn
-  malformed e = rw e
+  number-ends e a = rw a (record { is = ap (λ (y : Number). tested least most y bytes at) (sym is ∙ e); high = omega arith })
 
-  module _ {v next : ℕ} (e : numberAt bytes at ≡ Value v next) where
-    pub below : v < least → numberIn least most bytes at ≡ away 4 at
-    unfolding numberIn
-    below h = rw (e, lt-ltb v least h)
-
-    module _ (low : least ≤ v) where
-      pub above : most < v → numberIn least most bytes at ≡ away 4 at
-      unfolding numberIn
-      above h = rw (e, le-ltb v least low, lt-ltb most v h)
-
-      pub inside : v ≤ most → NumberAt bytes at least most (record { reason = 0; place = next; value = v })
-      unfolding numberIn
-      inside h = record { is = rw (e, le-ltb v least low, le-ltb most v h); high = h }
-
-  pub turned-away : {r : NumberRead} (reason : ℕ) {place : ℕ} → eqb reason 0 ≡ false → numberIn least most bytes at ≡ away reason place → r ≡ awayAt reason place
-      → NumberAt bytes at least most r
-  turned-away reason some e is = rw is (record { is = rw some e; high = omega arith })
+  pub number-malformed : x ≡ Malformed → r ≡ awayAt 3 at → NumberAt bytes at least most r
+  unfolding numberIn
+  number-malformed e a = rw a (record { is = ap (λ (y : Number). tested least most y bytes at) (sym is ∙ e); high = omega arith })
 
 module _ {bytes : List ℕ} {reason place least most : ℕ} {r : NumberRead} where
   pub number-due : reason ≡ 0 → NumberAt bytes place least most r → NumberFrom bytes reason place least most r

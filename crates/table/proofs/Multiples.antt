@@ -40,7 +40,7 @@ pub gcd-step : (a b : ℕ) → (b ≡ 0 → ⊥) → gcd a b ≡ gcd b (a % b)
 unfolding gcd gcdIn
 gcd-step a b some = cond-false (eqb b 0) a _ (ne-eqb b 0 some) ∙ enough b (suc (a % b)) b (a % b) (mod-lt a (pos-of-ne-zero some)) (lt-suc-self (a % b))
 
-pub gcd-positive : (a b : ℕ) → 0 < b → 0 < gcd a b
+gcd-positive : (a b : ℕ) → 0 < b → 0 < gcd a b
 gcd-positive a b pos = let (k, e) = gcd-ok a b .of-right in go (gcd a b) k e
   where
     go : (g k : ℕ) → b ≡ k * g → 0 < g
@@ -49,19 +49,27 @@ gcd-positive a b pos = let (k, e) = gcd-ok a b .of-right in go (gcd a b) k e
 
 -- ---- the least common multiple, under a limit
 
-module _ (limit a b : ℕ) {g : ℕ} (pos : 0 < b) (is : g ≡ gcd a b) where
+-- two numbers with their greatest common divisor
+pub record Divided (a b g : ℕ) : Type 0 where
+  pub pos : 0 < b
+  pub is : g ≡ gcd a b
+
+pub divisor-positive : {a b g : ℕ} → Divided a b g → 0 < g
+divisor-positive {a} {b} d = rw (d .is) (gcd-positive a b (d .pos))
+
+module _ (limit : ℕ) {a b g : ℕ} (d : Divided a b g) where
   pub product-fits : a / g ≤ limit / b → a / g * b ≤ limit
-  product-fits l = le-div-iff-mul-le pos .0 l
+  product-fits l = le-div-iff-mul-le (d .pos) .0 l
 
   pub within-under : a / g ≤ limit / b → a / g * b ≡ zeroAbove limit (lcm a b)
   unfolding lcm
   within-under l =
-      ap (λ (d : ℕ). a / d * b) is
-      ∙ sym (cond-false (ltb limit (a / gcd a b * b)) 0 _ (le-ltb limit (a / gcd a b * b) (le-div-iff-mul-le pos .0 (subst (λ (d : ℕ). a / d ≤ limit / b) is l))))
+      ap (λ (z : ℕ). a / z * b) (d .is)
+      ∙ sym (cond-false (ltb limit (a / gcd a b * b)) 0 _ (le-ltb limit (a / gcd a b * b) (le-div-iff-mul-le (d .pos) .0 (subst (λ (z : ℕ). a / z ≤ limit / b) (d .is) l))))
 
   pub within-above : limit / b < a / g → 0 ≡ zeroAbove limit (lcm a b)
   unfolding lcm
-  within-above l = sym (cond-true (ltb limit (a / gcd a b * b)) 0 _ (lt-ltb limit (a / gcd a b * b) (div-lt-iff-lt-mul pos .0 (subst (λ (d : ℕ). limit / b < a / d) is l))))
+  within-above l = sym (cond-true (ltb limit (a / gcd a b * b)) 0 _ (lt-ltb limit (a / gcd a b * b) (div-lt-iff-lt-mul (d .pos) .0 (subst (λ (z : ℕ). limit / b < a / z) (d .is) l))))
 
 -- what is said by a number that is 0 where another is above the limit
 pub record Under (limit v r : ℕ) : Type 0 where
@@ -111,33 +119,38 @@ module _ (f : ℕ → ℕ) where
           let more = lcm-ok (lcmTo n f) (f n) (all .positive) (pos n (lt-suc-self n)) in
           le-trans (ih (le-of-suc-le-suc l)) (not-above (lcm (lcmTo n f) (f n)) (lcmTo n f) (more .positive) (more .of-left))
 
--- the spacings of a table, one after the other
-module _ {ts : List ℕ} {n : ℕ} (sp : Spacings ts n) where
-  module _ {i h t : ℕ} (some : i < n) (so-far : h ≡ lcmTo i (λ k. getD ts k 0)) (here : t ≡ getD ts i 0) where
-    pub horizon-positive : 0 < h
-    horizon-positive = rw so-far (lcmTo-ok i (λ k. getD ts k 0) (λ k m. sp .least k (omega arith)) .positive)
+-- a spacing of a table, behind those whose least common multiple is h
+pub record Spaced (ts : List ℕ) (n i h t : ℕ) : Type 0 where
+  pub sp : Spacings ts n
+  pub some : i < n
+  pub so-far : h ≡ lcmTo i (λ k. getD ts k 0)
+  pub here : t ≡ getD ts i 0
 
-    pub spacing-positive : 0 < t
-    spacing-positive = rw here (sp .least i some)
+module _ {ts : List ℕ} {n i h t : ℕ} (u : Spaced ts n i h t) where
+  pub horizon-positive : 0 < h
+  horizon-positive = rw (u .so-far) (lcmTo-ok i (λ k. getD ts k 0) (λ k m. u .sp .least k (omega (arith, u .some))) .positive)
 
-    both : lcm h t ≡ lcmTo (i + 1) (λ k. getD ts k 0)
-    both = rw (so-far, here) (sym (lcmTo-more (λ k. getD ts k 0) i))
+  pub spacing-positive : 0 < t
+  spacing-positive = rw (u .here) (u .sp .least i (u .some))
 
-    module _ (limit : ℕ) {l : ℕ} (is : l ≡ zeroAbove limit (lcm h t)) where
-      -- where one spacing more takes it above the limit, all do
-      pub horizon-above : l ≡ 0 → 0 ≡ zeroAbove limit (lcmTo n (λ k. getD ts k 0))
-      horizon-above z =
-          let above = was-above limit (lcm h t) l is (lcm-ok h t horizon-positive spacing-positive .positive) z in
-          let grows = lcmTo-grows (λ k. getD ts k 0) n (i + 1) (sp .least) (omega arith) in
-          sym (cond-true (ltb limit (lcmTo n (λ k. getD ts k 0))) 0 _ (lt-ltb limit (lcmTo n (λ k. getD ts k 0)) (omega (arith, both))))
+  both : lcm h t ≡ lcmTo (i + 1) (λ k. getD ts k 0)
+  both = rw (u .so-far, u .here) (sym (lcmTo-more (λ k. getD ts k 0) i))
 
-      pub horizon-more : (l ≡ 0 → ⊥) → (l ≡ lcmTo (i + 1) (λ k. getD ts k 0)) × (l ≤ limit)
-      horizon-more some = let u = was-under limit (lcm h t) l is some in (u .same ∙ both, omega (arith, u .same, u .most))
+  module _ (limit : ℕ) {l : ℕ} (is : l ≡ zeroAbove limit (lcm h t)) where
+    -- where one spacing more takes it above the limit, all do
+    pub horizon-above : l ≡ 0 → 0 ≡ zeroAbove limit (lcmTo n (λ k. getD ts k 0))
+    horizon-above z =
+        let above = was-above limit (lcm h t) l is (lcm-ok h t horizon-positive spacing-positive .positive) z in
+        let grows = lcmTo-grows (λ k. getD ts k 0) n (i + 1) (u .sp .least) (omega (arith, u .some)) in
+        sym (cond-true (ltb limit (lcmTo n (λ k. getD ts k 0))) 0 _ (lt-ltb limit (lcmTo n (λ k. getD ts k 0)) (omega (arith, both))))
 
-  pub horizon-done : {i h : ℕ} (limit : ℕ) → i ≡ n → h ≡ lcmTo i (λ k. getD ts k 0) → h ≤ limit → h ≡ zeroAbove limit (lcmTo n (λ k. getD ts k 0))
-  horizon-done {i} {h} limit all so-far most =
-      let e : h ≡ lcmTo n (λ k. getD ts k 0) = so-far ∙ ap (λ (m : ℕ). lcmTo m (λ k. getD ts k 0)) all in
-      e ∙ sym (cond-false (ltb limit (lcmTo n (λ k. getD ts k 0))) 0 _ (le-ltb limit (lcmTo n (λ k. getD ts k 0)) (omega (arith, e))))
+    pub horizon-more : (l ≡ 0 → ⊥) → (l ≡ lcmTo (i + 1) (λ k. getD ts k 0)) × (l ≤ limit)
+    horizon-more some = let w = was-under limit (lcm h t) l is some in (w .same ∙ both, omega (arith, w .same, w .most))
+
+pub horizon-done : (f : ℕ → ℕ) {n i h : ℕ} (limit : ℕ) → i ≡ n → h ≡ lcmTo i f → h ≤ limit → h ≡ zeroAbove limit (lcmTo n f)
+horizon-done f {n} {i} {h} limit all so-far most =
+    let e : h ≡ lcmTo n f = so-far ∙ ap (λ (m : ℕ). lcmTo m f) all in
+    e ∙ sym (cond-false (ltb limit (lcmTo n f)) 0 _ (le-ltb limit (lcmTo n f) (omega (arith, e))))
 
 -- ---- the sum of H/T
 
@@ -145,18 +158,28 @@ pub sum-none : (f : ℕ → ℕ) → 0 ≡ sumTo 0 f
 unfolding sumTo
 sum-none f = refl
 
-pub spacing-here : {ts : List ℕ} {n i t : ℕ} → Spacings ts n → i < n → t ≡ getD ts i 0 → 0 < t
-spacing-here sp l e = rw e (sp .least _ l)
+-- a spacing of a table, behind those over which h was summed
+pub record Summed (limit h : ℕ) (ts : List ℕ) (n i sum t : ℕ) : Type 0 where
+  pub sp : Spacings ts n
+  pub small : h ≤ limit
+  pub some : i < n
+  pub below : sum ≤ i * limit
+  pub so-far : sum ≡ sumTo i (λ k. h / getD ts k 0)
+  pub here : t ≡ getD ts i 0
 
-module _ (h : ℕ) (ts : List ℕ) (i : ℕ) {t sum : ℕ} (here : t ≡ getD ts i 0) (so-far : sum ≡ sumTo i (λ k. h / getD ts k 0)) where
+module _ {limit h : ℕ} {ts : List ℕ} {n i sum t : ℕ} (u : Summed limit h ts n i sum t) where
+  pub sum-divides : 0 < t
+  sum-divides = rw (u .here) (u .sp .least i (u .some))
+
   pub sum-more : sum + h / t ≡ sumTo (i + 1) (λ k. h / getD ts k 0)
   unfolding sumTo
-  sum-more = ap₂ (λ (a b : ℕ). a + h / b) so-far here ∙ sym (ap (λ (m : ℕ). sumTo m (λ k. h / getD ts k 0)) (add-one i))
+  sum-more = ap₂ (λ (a b : ℕ). a + h / b) (u .so-far) (u .here) ∙ sym (ap (λ (m : ℕ). sumTo m (λ k. h / getD ts k 0)) (add-one i))
 
--- each task adds at most the limit
-pub sum-small : (h t i n sum limit : ℕ) → h ≤ limit → i < n → n ≤ 32 → sum ≤ i * limit → (sum + h / t ≤ (i + 1) * limit) × (sum + h / t ≤ 32 * limit)
-sum-small h t i n sum limit small l few so-far =
-    let q = div-le-self h t in
-    let all : (i + 1) * limit ≤ 32 * limit = mul-le-mul-right limit (omega arith) in
-    let one : (i + 1) * limit ≡ i * limit + limit = add-mul i 1 limit ∙ ap (λ (z : ℕ). i * limit + z) (one-mul limit) in
-    (omega arith, omega arith)
+  -- each task adds at most the limit
+  pub sum-small : (sum + h / t ≤ (i + 1) * limit) × (sum + h / t ≤ 32 * limit)
+  sum-small =
+      let q = div-le-self h t in
+      let few : i + 1 ≤ 32 = omega (arith, u .some, u .sp .few) in
+      let all : (i + 1) * limit ≤ 32 * limit = mul-le-mul-right limit few in
+      let one : (i + 1) * limit ≡ i * limit + limit = add-mul i 1 limit ∙ ap (λ (z : ℕ). i * limit + z) (one-mul limit) in
+      (omega (arith, u .small, u .below), omega (arith, u .small, u .below))

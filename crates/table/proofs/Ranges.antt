@@ -26,45 +26,50 @@ use Rattle.table.proofs.Multiples.{Under, was-above, was-under}
 abbrev both : (a b : Bool) → Parser (Unit {0})
 both a b bytes at = andThen (if a then away 6 0 else got tt at) (λ (u : Unit {0}) (s : List ℕ) (k : ℕ). if b then away 7 0 else got tt k) bytes
 
+-- the least common multiple of a table's spacings
+abbrev spaced : Table → ℕ
+spaced t = lcmTo (t .tasks) (λ i. getD (t .spacing) i 0)
+
+pub limit-far : (t : Table) {h : ℕ} → h ≡ zeroAbove horizonMost (lcmTo (t .tasks) (λ i. getD (t .spacing) i 0)) → Spacings (t .spacing) (t .tasks) → h ≡ 0
+    → limitOf (tasksOf t) ≡ TurnedAway 6 0
+unfolding limitOf horizonOf
+limit-far t {h} is sp z =
+    let above = was-above horizonMost (spaced t) h is (lcmTo-ok (t .tasks) (λ i. getD (t .spacing) i 0) (sp .least) .positive) z in
+    rw (lt-ltb horizonMost (spaced t) above)
+
+-- a table whose horizon h is within its limit
+pub record Near (t : Table) (h : ℕ) : Type 0 where
+  pub is : h ≡ zeroAbove horizonMost (lcmTo (t .tasks) (λ i. getD (t .spacing) i 0))
+  pub some : h ≡ 0 → ⊥
+
+module _ {t : Table} {h : ℕ} (n : Near t h) where
+  under : Under horizonMost (spaced t) h
+  under = was-under horizonMost (spaced t) h (n .is) (n .some)
+
+  horizon-is : h ≡ horizonOf (tasksOf t)
+  unfolding horizonOf
+  horizon-is = under .same
+
+  pub horizon-small : h ≤ horizonMost
+  horizon-small = omega (arith, under .same, under .most)
+
+  module _ {sum : ℕ} (sum-is : sum ≡ sumTo (t .tasks) (λ i. h / getD (t .spacing) i 0)) where
+    jobs-are : sum ≡ jobsWithin (tasksOf t) (horizonOf (tasksOf t))
+    unfolding jobsWithin
+    jobs-are = sum-is ∙ ap (λ (k : ℕ). sumTo (t .tasks) (λ i. k / getD (t .spacing) i 0)) horizon-is
+
+    within-limit : ltb horizonMost (horizonOf (tasksOf t)) ≡ false
+    within-limit = le-ltb horizonMost (horizonOf (tasksOf t)) (omega (arith, horizon-is, horizon-small))
+
+    pub limit-crowded : jobsMost < sum → limitOf (tasksOf t) ≡ TurnedAway 7 0
+    unfolding limitOf
+    limit-crowded many = rw (within-limit, lt-ltb jobsMost (jobsWithin (tasksOf t) (horizonOf (tasksOf t))) (omega (arith, jobs-are)))
+
+    pub limit-read : sum ≤ jobsMost → Read h ≡ limitOf (tasksOf t)
+    unfolding limitOf
+    limit-read few = rw (within-limit, le-ltb jobsMost (jobsWithin (tasksOf t) (horizonOf (tasksOf t))) (omega (arith, jobs-are))) (ap Read horizon-is)
+
 module _ (t : Table) where
-  -- the least common multiple of its spacings
-  abbrev spaced : ℕ
-  spaced = lcmTo (t .tasks) (λ i. getD (t .spacing) i 0)
-
-  module _ {h : ℕ} (is : h ≡ zeroAbove horizonMost (lcmTo (t .tasks) (λ i. getD (t .spacing) i 0))) where
-    pub limit-far : Spacings (t .spacing) (t .tasks) → h ≡ 0 → limitOf (tasksOf t) ≡ TurnedAway 6 0
-    unfolding limitOf horizonOf
-    limit-far sp z =
-        let above = was-above horizonMost spaced h is (lcmTo-ok (t .tasks) (λ i. getD (t .spacing) i 0) (sp .least) .positive) z in
-        rw (lt-ltb horizonMost spaced above)
-
-    module _ (some : h ≡ 0 → ⊥) where
-      under : Under horizonMost spaced h
-      under = was-under horizonMost spaced h is some
-
-      horizon-is : h ≡ horizonOf (tasksOf t)
-      unfolding horizonOf
-      horizon-is = under .same
-
-      pub horizon-small : h ≤ horizonMost
-      horizon-small = omega (arith, under .same, under .most)
-
-      module _ {sum : ℕ} (sum-is : sum ≡ sumTo (t .tasks) (λ i. h / getD (t .spacing) i 0)) where
-        jobs-are : sum ≡ jobsWithin (tasksOf t) (horizonOf (tasksOf t))
-        unfolding jobsWithin
-        jobs-are = sum-is ∙ ap (λ (k : ℕ). sumTo (t .tasks) (λ i. k / getD (t .spacing) i 0)) horizon-is
-
-        near : ltb horizonMost (horizonOf (tasksOf t)) ≡ false
-        near = le-ltb horizonMost (horizonOf (tasksOf t)) (omega (arith, horizon-is, horizon-small))
-
-        pub limit-crowded : jobsMost < sum → limitOf (tasksOf t) ≡ TurnedAway 7 0
-        unfolding limitOf
-        limit-crowded many = rw (near, lt-ltb jobsMost (jobsWithin (tasksOf t) (horizonOf (tasksOf t))) (omega (arith, jobs-are)))
-
-        pub limit-read : sum ≤ jobsMost → Read h ≡ limitOf (tasksOf t)
-        unfolding limitOf
-        limit-read few = rw (near, le-ltb jobsMost (jobsWithin (tasksOf t) (horizonOf (tasksOf t))) (omega (arith, jobs-are))) (ap Read horizon-is)
-
   -- a table whose numbers were read, beside what its limits say: no byte is looked at
   pub limited-reading : (bytes : List ℕ) (at : ℕ) → readingOf (andThen (limits (tasksOf t) bytes at) (λ u. done t) bytes) ≡ limitedBy (limitOf (tasksOf t)) t
   unfolding limitOf limitedBy

@@ -6,6 +6,7 @@ use mathlib.Core.List.{List}
 use lib.Dec.{eqb}
 use Rattle.finite.specs.If.{if_then_else_}
 use Rattle.model.specs.Limits.{costMost, phasesMost, spacingMost, workMost}
+use Rattle.groups.specs.declared.Number.the-variants.{Value}
 use Rattle.table.specs.declared.Table.{Table}
 use Rattle.table.specs.declared.items.Step.{Step}
 use Rattle.table.specs.declared.items.NumberRead.{NumberRead}
@@ -15,7 +16,7 @@ use Rattle.table.specs.declared.Reading.{Reading}
 use Rattle.table.specs.declared.ReadOutcome.{ReadOutcome}
 use Rattle.table.specs.declared.ReadOutcome.the-variants.{Read, TurnedAway}
 use Rattle.table.specs.Parser.{Result, got, away, Parser}
-use Rattle.table.specs.Parse.{empty, numberIn, each, phase, task, nothingBehind, withPhase, withTask}
+use Rattle.table.specs.Parse.{empty, tested, numberIn, each, phase, task, nothingBehind, withPhase, withTask}
 
 -- A step is a reason and a place. What was read up to a step, and what is read from it on:
 abbrev pub readTo : {A : Type 0} → (reason place : ℕ) → A → Result A
@@ -35,6 +36,11 @@ pub record Leaves {A : Type 0} (bytes : List ℕ) (reason place : ℕ) (p : Pars
 -- no number: turned away
 abbrev pub awayAt : (reason place : ℕ) → NumberRead
 awayAt reason place = record { reason = reason; place = place; value = 0 }
+
+-- a number that stands at a place, with the place behind it, tested for its range
+pub record Ranged (at value place least most : ℕ) (r : NumberRead) : Type 0 where
+  pub is : (bytes : List ℕ) → tested least most (Value value place) bytes at ≡ readTo (r .reason) (r .place) (r .value)
+  pub high : r .value ≤ most
 
 -- a number, at a place and from a step on
 pub record NumberAt (bytes : List ℕ) (at least most : ℕ) (r : NumberRead) : Type 0 where

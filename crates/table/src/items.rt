@@ -5,7 +5,7 @@ use crate::Table;
 use groups::Number;
 ghost use mathlib.Core.Path.{_≡_};
 ghost use Prim.Native.Nat.{_≤_};
-ghost use Rattle.table.specs.Steps.{arrays, phaseArrays, awayAt, NumberAt, NumberFrom, PhaseFrom, HeadFrom, PhasesFrom, TasksFrom, EndFrom};
+ghost use Rattle.table.specs.Steps.{arrays, phaseArrays, awayAt, Ranged, NumberAt, NumberFrom, PhaseFrom, HeadFrom, PhasesFrom, TasksFrom, EndFrom};
 
 pub struct Step {
     pub reason: u8,
@@ -36,24 +36,29 @@ pub struct HeadRead {
     pub phases: u32,
 }
 
+// A number that stands at `at`, tested for its range: outside it, reason 4.
+fn ranged(at: usize, value: u64, place: usize, least: u64, most: u64) -> NumberRead
+    ensures { λ r. ⌜ Ranged at value place least most r ⌝ }
+{
+    if value < least {
+        return away(4, at);
+    }
+    if most < value {
+        return away(4, at);
+    }
+    NumberRead {
+        reason: 0,
+        place,
+        value,
+    }
+}
+
 // The number at `at`, which must be from `least` to `most`.
 fn number_at(bytes: &[u8], at: usize, least: u64, most: u64) -> NumberRead
     ensures { λ r. ⌜ NumberAt (now (bytes .entry)) at least most r ⌝ }
 {
     match groups::read(bytes, at) {
-        Number::Value(value, place) => {
-            if value < least {
-                away(4, at)
-            } else if most < value {
-                away(4, at)
-            } else {
-                NumberRead {
-                    reason: 0,
-                    place,
-                    value,
-                }
-            }
-        }
+        Number::Value(value, place) => ranged(at, value, place, least, most),
         Number::Ends => away(2, bytes.len()),
         Number::Malformed => away(3, at),
     }

@@ -2,15 +2,17 @@
 use native.Mathlib.Omega.{arith}
 use borrow.Author.Needs.{needs}
 use mathlib.Core.Path.{_≡_}
-use Prim.Native.Nat.{_≤_, _+_, _*_, _/_, _-_}
+use Prim.Native.Nat.{_≤_, _*_, _/_, _-_}
 use lib.ListN.{getD}
+use denote.Ref.{now}
 use Rattle.finite.specs.Finite.{sumTo}
-use Rattle.table.proofs.Multiples.{spacing-here, sum-none, sum-more, sum-small}
+use Rattle.model.specs.Limits.{horizonMost}
+use Rattle.table.proofs.Multiples.{Summed, sum-none, sum-divides, sum-more, sum-small}
 use Rattle.table.proofs.horizon.jobs_within.Statement.{statement}
 use Rattle.table.proofs.horizon.jobs_within.Tie as tie
 
 abbrev Inv-loop : tie.InvT-loop
-Inv-loop n h spacing sum₀ i₀ sum i = (i ≤ n) × (sum ≤ i * 1_000_000_000_000) × (sum ≡ sumTo i (λ k. h / getD spacing k 0))
+Inv-loop n h spacing sum₀ i₀ sum i = (i ≤ n) × (sum ≤ i * horizonMost) × (sum ≡ sumTo i (λ k. h / getD spacing k 0))
 
 abbrev μ-loop : tie.MeasureT-loop
 μ-loop n h spacing sum₀ i₀ sum i = n - i
@@ -22,24 +24,35 @@ mul-wide : tie.Need-mul-wide Inv-loop μ-loop
 mul-wide c = search needs
 
 element-copy-out-wide : tie.Need-element-copy-out-wide Inv-loop μ-loop
-element-copy-out-wide c = omega (arith, c .before .before .pre .0 .wide, c .before .before .pre .0 .few)
+element-copy-out-wide c = omega (arith, c .before .before .pre .0)
 
 wide-requires : tie.Need-wide-requires Inv-loop μ-loop
 wide-requires c κs = search needs
 
-div-sum : tie.Need-div-sum Inv-loop μ-loop
-div-sum c = spacing-here (c .before .before .before .before .pre .0) (c .before .before .loop-test .taken) (c .wide .ensures)
+-- the loop, seen from behind a spacing
+abbrev turn : tie.After-wide Inv-loop μ-loop → tie.At-loop Inv-loop μ-loop
+turn w = w .before .before .before
 
--- what one task more adds
-small : (c : tie.After-wide Inv-loop μ-loop) → let l = c .before .before .before .loop in let a = c .before .before .before .before .args in
-    (l .sum + a .h / c .wide .result ≤ (l .i + 1) * 1_000_000_000_000) × (l .sum + a .h / c .wide .result ≤ 32 * 1_000_000_000_000)
-small c =
-    let i = c .before .before in
-    let s = i .before .before in
-    sum-small _ _ _ _ _ 1_000_000_000_000 (s .pre .1) (i .loop-test .taken) (s .pre .0 .few) (i .before .loop .inv .1)
+-- what is known there, once for all
+summed : (w : tie.After-wide Inv-loop μ-loop) → let a = turn w .before .args in let l = turn w .loop in
+    Summed horizonMost (a .h) (now (a .spacing)) (a .n) (l .i) (l .sum) (w .wide .result)
+summed w =
+    let s = turn w .before in
+    let l = turn w .loop in
+    record {
+      sp = s .pre .0;
+      small = s .pre .1;
+      some = w .before .before .loop-test .taken;
+      below = l .inv .1;
+      so-far = l .inv .2;
+      here = w .wide .ensures;
+    }
+
+div-sum : tie.Need-div-sum Inv-loop μ-loop
+div-sum c = sum-divides (summed c)
 
 add-sum : tie.Need-add-sum Inv-loop μ-loop
-add-sum c = omega (arith, small c)
+add-sum c = omega (arith, sum-small (summed c))
 
 add-i : tie.Need-add-i Inv-loop μ-loop
 add-i c = search needs
@@ -48,7 +61,7 @@ loop-less : tie.Need-loop-less Inv-loop μ-loop
 loop-less c = search needs
 
 loop-again : tie.Need-loop-again Inv-loop μ-loop
-loop-again c = (omega arith, small c .0, sum-more _ (c .before .before .before .before .args .spacing .now) _ (c .wide .ensures) (c .before .before .before .loop .inv .2))
+loop-again c = (omega arith, sum-small (summed c) .0, sum-more (summed c))
 
 returns : tie.Need-returns Inv-loop μ-loop
 returns c =
