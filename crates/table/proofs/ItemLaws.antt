@@ -1,8 +1,9 @@
 -- The items of a table, by what the functions below each answer: a number, a phase, a task, the end, the whole.
 -- Assumes nothing.
-use Prim.Native.Nat.{ℕ, _*_, _≤_, _<_}
+use Prim.Native.Nat.{ℕ, _-_, _*_, _≤_, _<_}
 use mathlib.Core.Path.{_≡_, refl, ap, sym, _∙_}
 use mathlib.Core.List.{List}
+use native.Mathlib.Nat.{sub-zero}
 use native.Mathlib.Omega.{arith}
 use lib.ListN.{length, replicate}
 use borrow.Author.Tests.{eq-eqb, ne-eqb, lt-ltb, le-ltb}
@@ -16,8 +17,8 @@ use Rattle.table.specs.declared.Parsing.{Parsing}
 use Rattle.table.specs.declared.Reading.{Reading}
 use Rattle.table.specs.declared.ReadOutcome.the-variants.{TurnedAway as Refused}
 use Rattle.table.specs.declared.items.NumberRead.{NumberRead}
-use Rattle.table.specs.Parse.{Result, got, away, tested, numberIn, each, phase, task, nothingBehind, numbers, table, empty, withPhase, withTask, parsedOf, limitOf, readingOf}
-use Rattle.table.specs.Steps.{readTo, awayAt, arrays, limitedBy, Reads, Leaves, Ranged, NumberAt, NumberFrom, EndFrom}
+use Rattle.table.specs.Parse.{Result, got, away, Parser, andThen, _>>=_, _>>_, done, tested, numberIn, each, phase, task, nothingBehind, numbers, table, empty, withPhase, withTask, parsedOf, limitOf, readingOf}
+use Rattle.table.specs.Steps.{readTo, awayAt, arrays, allTasks, limitedBy, Reads, Leaves, Ranged, NumberAt, NumberFrom, EndFrom}
 use Rattle.table.specs.TaskModel.{tasksOf}
 use Rattle.table.specs.Valid.{InRange}
 use Rattle.table.proofs.Ranges.{limited-reading}
@@ -87,13 +88,23 @@ module _ {bytes : List ℕ} {reason place : ℕ} where
   pub end-away : (reason ≡ 0 → ⊥) → EndFrom bytes reason place (record { reason = reason; place = place })
   end-away some = record { reads = record { is = rw (ne-eqb reason 0 some) } }
 
-pub numbers-by : {bytes : List ℕ} {rn pn count rt pt re pe : ℕ} {t : Table}
-    → Reads bytes 0 0 (numberIn 1 tasksMost) rn pn count
-    → Reads bytes rn pn (each task count 0 (arrays (replicate 32 0) (replicate 32 0) (replicate 32 0) (replicate 256 0) (replicate 256 0) count)) rt pt t
+-- the number of tasks was read: the tasks are left
+pub tasks-by : {bytes : List ℕ} {reason place count : ℕ} (before : ℕ → Table) → Reads bytes 0 0 (numberIn 1 tasksMost) reason place count
+    → Leaves bytes 0 0 (allTasks before) reason place (each task (count - 0) 0 (before count))
+tasks-by before n = rw sub-zero (next _ _ n)
+
+assoc : {A B C : Type 0} (x : Result A) (f : A → Parser B) (g : B → Parser C) (s : List ℕ) → andThen (andThen x f s) g s ≡ andThen x (λ a. _>>=_ (f a) g) s
+assoc (got a at) f g s = refl
+assoc (away reason place) f g s = refl
+
+pub numbers-by : {bytes : List ℕ} {rt pt re pe : ℕ} {t : Table}
+    → Reads bytes 0 0 (allTasks (arrays (replicate 32 0) (replicate 32 0) (replicate 32 0) (replicate 256 0) (replicate 256 0))) rt pt t
     → Reads bytes rt pt nothingBehind re pe tt
     → readTo re pe t ≡ numbers bytes 0
 unfolding numbers empty
-numbers-by n ts e = sym (then-done _ (go-on (next _ _ n) (go-on (next _ _ ts) (next _ (λ u. _) e))) .is)
+numbers-by {bytes} {t = t} ts e =
+    sym (then-done t (go-on (next bytes (λ u. _>>_ nothingBehind (done u)) ts) (next bytes (λ u. done t) e)) .is)
+    ∙ assoc (numberIn 1 tasksMost bytes 0) _ (λ u. _>>_ nothingBehind (done u)) bytes
 
 -- the last step, as an answer
 module _ (reason place : ℕ) (t : Table) where

@@ -5,17 +5,18 @@ use mathlib.Core.Path.{_≡_}
 use mathlib.Core.List.{List}
 use lib.Dec.{eqb}
 use Rattle.finite.specs.If.{if_then_else_}
-use Rattle.model.specs.Limits.{costMost, phasesMost, spacingMost, workMost}
+use Rattle.model.specs.Limits.{phasesMost, tasksMost}
 use Rattle.groups.specs.declared.Number.the-variants.{Value}
 use Rattle.table.specs.declared.Table.{Table}
 use Rattle.table.specs.declared.items.Step.{Step}
 use Rattle.table.specs.declared.items.NumberRead.{NumberRead}
 use Rattle.table.specs.declared.items.PhaseRead.{PhaseRead}
 use Rattle.table.specs.declared.items.HeadRead.{HeadRead}
+use Rattle.table.specs.declared.items.TasksRead.{TasksRead}
 use Rattle.table.specs.declared.Reading.{Reading}
 use Rattle.table.specs.declared.ReadOutcome.{ReadOutcome}
 use Rattle.table.specs.declared.ReadOutcome.the-variants.{Read, TurnedAway}
-use Rattle.table.specs.Parser.{Result, got, away, Parser}
+use Rattle.table.specs.Parser.{Result, got, away, Parser, _>>=_}
 use Rattle.table.specs.Parse.{empty, tested, numberIn, each, phase, task, nothingBehind, withPhase, withTask}
 
 -- A step is a reason and a place. What was read up to a step, and what is read from it on:
@@ -73,9 +74,14 @@ arrays spacing deadline phases work cost n = record { tasks = n; spacing = spaci
 pub record PhasesFrom (bytes : List ℕ) (reason place first last : ℕ) (before after : Table → Table) (r : Step) : Type 0 where
   pub reads : (t : Table) → Reads bytes reason place (each phase (last - first) first (before t)) (r .reason) (r .place) (after t)
 
--- so many tasks
-pub record TasksFrom (bytes : List ℕ) (reason place count : ℕ) (before after : ℕ → Table) (r : Step) : Type 0 where
-  pub reads : (n : ℕ) → Reads bytes reason place (each task count 0 (before n)) (r .reason) (r .place) (after n)
+-- the number of tasks, and the tasks, put into the table that arrays hold
+abbrev pub allTasks : (ℕ → Table) → Parser Table
+allTasks before = do
+  count ← numberIn 1 tasksMost
+  each task count 0 (before count)
+
+pub record TasksFrom (bytes : List ℕ) (before after : ℕ → Table) (r : TasksRead) : Type 0 where
+  pub reads : Reads bytes 0 0 (allTasks before) (r .reason) (r .place) (after (r .count))
 
 -- nothing behind
 pub record EndFrom (bytes : List ℕ) (reason place : ℕ) (r : Step) : Type 0 where

@@ -36,6 +36,13 @@ pub struct HeadRead {
     pub phases: u32,
 }
 
+// The step behind the tasks, and their number.
+pub struct TasksRead {
+    pub reason: u8,
+    pub place: usize,
+    pub count: usize,
+}
+
 // A number that stands at `at`, tested for its range: outside it, reason 4.
 fn ranged(at: usize, value: u64, place: usize, least: u64, most: u64) -> NumberRead
     ensures { λ r. ⌜ Ranged at value place least most r ⌝ }
@@ -76,7 +83,7 @@ fn away(reason: u8, place: usize) -> NumberRead
 }
 
 // The number that is due at a step.
-pub fn number(bytes: &[u8], reason: u8, place: usize, least: u64, most: u64) -> NumberRead
+fn number(bytes: &[u8], reason: u8, place: usize, least: u64, most: u64) -> NumberRead
     ensures { λ r. ⌜ NumberFrom (now (bytes .entry)) reason place least most r ⌝ }
 {
     if reason == 0 {
@@ -170,34 +177,37 @@ fn phases(
     step
 }
 
-// `count` tasks, put into the lent arrays; the number of a task's phases into `sizes`.
+// The number of tasks and the tasks, put into the lent arrays; the number of a task's phases into `sizes`.
 pub fn tasks(
     bytes: &[u8],
-    reason: u8,
-    place: usize,
-    count: usize,
     spacings: &mut [u32; 32],
     deadlines: &mut [u32; 32],
     sizes: &mut [u32; 32],
     works: &mut [u32; 256],
     costs: &mut [u32; 256],
-) -> Step
-    requires { ⌜ count ≤ 32 ⌝ }
-    ensures { λ r. ⌜ TasksFrom (now (bytes .entry)) reason place count
+) -> TasksRead
+    ensures { λ r. ⌜ TasksFrom (now (bytes .entry))
         (arrays (now (spacings .entry)) (now (deadlines .entry)) (now (sizes .entry)) (now (works .entry)) (now (costs .entry)))
         (arrays (now (spacings .exit)) (now (deadlines .exit)) (now (sizes .exit)) (now (works .exit)) (now (costs .exit))) r ⌝ }
 {
-    let mut step = Step { reason, place };
+    let n = number(bytes, 0, 0, Table::TASKS_LEAST, Table::TASKS_MOST);
+    let count = n.value as usize;
+    let mut reason = n.reason;
+    let mut place = n.place;
     let mut i: usize = 0;
     while i < count {
-        if step.reason != 0 {
-            return step;
+        if reason != 0 {
+            return TasksRead {
+                reason,
+                place,
+                count,
+            };
         }
-        let h = head(bytes, step.reason, step.place);
+        let h = head(bytes, reason, place);
         spacings[i] = h.spacing;
         deadlines[i] = h.deadline;
         sizes[i] = h.phases;
-        step = phases(
+        let s = phases(
             bytes,
             h.reason,
             h.place,
@@ -206,9 +216,15 @@ pub fn tasks(
             works,
             costs,
         );
+        reason = s.reason;
+        place = s.place;
         i = i + 1;
     }
-    step
+    TasksRead {
+        reason,
+        place,
+        count,
+    }
 }
 
 // The end of the table: bytes behind it are reason 5.

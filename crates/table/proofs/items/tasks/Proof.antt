@@ -1,26 +1,29 @@
 -- `tasks` meets its contract. The invariant: to read all the tasks is to read those that are left. Assumes nothing.
-use Prim.Native.Nat.{ℕ, _-_}
-use mathlib.Core.Path.{refl}
-use native.Mathlib.Nat.{sub-zero}
+use Prim.Native.Nat.{_-_, _≤_}
 use borrow.Author.Needs.{needs}
 use Rattle.table.specs.Parse.{each, task}
-use Rattle.table.specs.Steps.{arrays, Leaves}
+use Rattle.table.specs.Steps.{allTasks, arrays, Leaves}
+use Rattle.table.proofs.ItemLaws.{tasks-by}
 use Rattle.table.proofs.Steps.{go-on, and-reads, stays, again, finish, phases-of}
 use Rattle.table.proofs.items.tasks.Statement.{statement}
 use Rattle.table.proofs.items.tasks.Tie as tie
 
 abbrev Inv-loop : tie.InvT-loop
-Inv-loop bytes reason place count spacings₀ deadlines₀ sizes₀ works₀ costs₀ step₀ i₀ spacings deadlines sizes works costs step i = (n : ℕ) → Leaves bytes reason place
-    (each task count 0 (arrays spacings₀ deadlines₀ sizes₀ works₀ costs₀ n)) (step .reason) (step .place) (each task (count - i) i (arrays spacings deadlines sizes works costs n))
+Inv-loop bytes spacings₀ deadlines₀ sizes₀ works₀ costs₀ count reason₀ place₀ i₀ spacings deadlines sizes works costs reason place i =
+    (count ≤ 32) × Leaves bytes 0 0 (allTasks (arrays spacings₀ deadlines₀ sizes₀ works₀ costs₀)) reason place
+    (each task (count - i) i (arrays spacings deadlines sizes works costs count))
 
 abbrev μ-loop : tie.MeasureT-loop
-μ-loop bytes reason place count spacings₀ deadlines₀ sizes₀ works₀ costs₀ step₀ i₀ spacings deadlines sizes works costs step i = count - i
+μ-loop bytes spacings₀ deadlines₀ sizes₀ works₀ costs₀ count reason₀ place₀ i₀ spacings deadlines sizes works costs reason place i = count - i
+
+number-requires : tie.Need-number-requires Inv-loop μ-loop
+number-requires c κs = search needs
 
 loop-holds : tie.Need-loop-holds Inv-loop μ-loop
-loop-holds c = λ n. rw sub-zero (record { is = refl })
+loop-holds c = (search needs, tasks-by _ (c .number .ensures .reads))
 
 returns : tie.Need-returns Inv-loop μ-loop
-returns c = record { reads = λ n. and-reads (c .before .before .before .loop .inv n) (stays (c .if1 .taken)) }
+returns c = record { reads = and-reads (c .before .before .loop .inv .1) (stays (c .if1 .taken)) }
 
 head-requires : tie.Need-head-requires Inv-loop μ-loop
 head-requires c κs = search needs
@@ -65,17 +68,20 @@ loop-less : tie.Need-loop-less Inv-loop μ-loop
 loop-less c = search needs
 
 loop-again : tie.Need-loop-again Inv-loop μ-loop
-loop-again c = λ n.
+loop-again c =
     let h = c .before .before .before .before in
-    let l = h .before .before .before in
-    go-on (l .before .loop .inv n)
-    (again task _ _ _ (l .loop-test .taken) (and-reads (h .head .ensures .leaves _ _) (phases-of _ _ _ (c .phases .ensures))))
+    let t = h .before .before in (
+      t .before .loop .inv .0,
+      go-on (t .before .loop .inv .1)
+          (again task _ _ _ (t .loop-test .taken) (and-reads (h .head .ensures .leaves _ _) (phases-of _ _ _ (c .phases .ensures)))),
+    )
 
 returns-2 : tie.Need-returns-2 Inv-loop μ-loop
-returns-2 c = record { reads = λ n. and-reads (c .before .loop .inv n) (finish task _ _ _ (c .loop-test .left)) }
+returns-2 c = record { reads = and-reads (c .before .loop .inv .1) (finish task _ _ _ (c .loop-test .left)) }
 
 pub tasks-spec : {M : Type 1} → statement M
 tasks-spec =
     tie.close
-    (tie.spec Inv-loop μ-loop loop-holds returns head-requires mul-spacings element-write-spacings mul-deadlines element-write-deadlines mul-sizes
-    element-write-sizes mul-phases mul-phases-2 cast-phases add-phases phases-requires add-i loop-less loop-again returns-2)
+    (tie.spec Inv-loop μ-loop number-requires loop-holds returns head-requires mul-spacings element-write-spacings mul-deadlines
+    element-write-deadlines mul-sizes element-write-sizes mul-phases mul-phases-2 cast-phases add-phases phases-requires add-i loop-less loop-again
+    returns-2)
