@@ -1,0 +1,74 @@
+-- `first_stuck` meets its contract. The invariant: none of the first i tasks has a stuck phase.
+-- Assumes nothing.
+use Prim.Native.Nat.{_≤_, _-_}
+use borrow.Author.Needs.{needs}
+use lib.ListN.{getD}
+use mathlib.Core.List.{[]}
+use native.Mathlib.Omega.{arith}
+use Rattle.finite.specs.Finite.{Below}
+use Rattle.walk.specs.Stuck.{StuckTask}
+use Rattle.walk.specs.Take.{arraysIn}
+use Rattle.walk.specs.laws.Stuck.{Searching, none-found, searching-more, searching-none, stuck-found, stuck-nowhere}
+use Rattle.walk.proofs.stuck.first_stuck.Statement.{statement}
+use Rattle.walk.proofs.stuck.first_stuck.Tie as tie
+
+abbrev Inv-loop : tie.InvT-loop
+Inv-loop n t margin d m c q i₀ i = (n ≤ 32) × Below n (λ k. getD m k 0 ≤ 8) × Searching n (StuckTask (arraysIn n [] d m c q) t margin) i
+
+abbrev μ-loop : tie.MeasureT-loop
+μ-loop n t margin d m c q i₀ i = n - i
+
+loop-holds : tie.Need-loop-holds Inv-loop μ-loop
+loop-holds c = (c .pre .0, c .pre .1, searching-none _ _)
+
+stuck-phase-requires : tie.Need-stuck-phase-requires Inv-loop μ-loop
+stuck-phase-requires c κs =
+    let k = c .before in
+    (omega arith, k .loop .inv .1 _ (c .loop-test .taken))
+
+mul-size : tie.Need-mul-size Inv-loop μ-loop
+mul-size c = search needs
+
+element-copy-out-size : tie.Need-element-copy-out-size Inv-loop μ-loop
+element-copy-out-size c = search needs
+
+size-requires : tie.Need-size-requires Inv-loop μ-loop
+size-requires c κs = search needs
+
+returns : tie.Need-returns Inv-loop μ-loop
+returns c =
+    let b = c .before .before .before in
+    let k = b .before .before .loop .inv in
+    stuck-found (k .2) (b .before .loop-test .taken) (b .stuck-phase .ensures) (omega arith)
+
+add-i : tie.Need-add-i Inv-loop μ-loop
+add-i c = search needs
+
+loop-less : tie.Need-loop-less Inv-loop μ-loop
+loop-less c = search needs
+
+loop-again : tie.Need-loop-again Inv-loop μ-loop
+loop-again c =
+    let b = c .before .before .before in
+    let k = b .before .before .loop .inv in
+    (k .0, k .1, searching-more (k .2) (b .before .loop-test .taken) (none-found (b .stuck-phase .ensures) (omega arith)))
+
+returns-2 : tie.Need-returns-2 Inv-loop μ-loop
+returns-2 c = stuck-nowhere (c .before .loop .inv .2) (omega arith)
+
+pub first-stuck-spec : {M : Type 1} → statement M
+first-stuck-spec =
+    tie.close
+    (tie.spec
+    Inv-loop
+    μ-loop
+    loop-holds
+    stuck-phase-requires
+    mul-size
+    element-copy-out-size
+    size-requires
+    returns
+    add-i
+    loop-less
+    loop-again
+    returns-2)

@@ -1,0 +1,52 @@
+-- WITHIN THE WALK (nobody need believe this: edf states the promise, and it is proved). The tasks' budgets, and the margins that their counts are
+-- cut to: both are settled at a task's first deadline.
+-- Assumes nothing.
+use mathlib.Core.Path.{_≡_}
+use mathlib.Core.List.{List}
+use Prim.Native.Nat.{ℕ, _*_, _≤_}
+use lib.ListN.{getD, set}
+use lib.Dec.{eqb}
+use Rattle.finite.specs.Finite.{sumTo}
+use Rattle.finite.specs.If.{if_then_else_}
+use Rattle.model.specs.Arrays.{Arrays}
+use Rattle.model.specs.Limits.{tasksMost}
+use Rattle.model.specs.Phase.{phasesOf}
+use Rattle.pieces.specs.Bounds.{budgetMost}
+use Rattle.pieces.specs.Held.{held, needs, phasesIn}
+use Rattle.walk.specs.Deadlines.{Mapped}
+
+-- what one point may add to the demand
+abbrev pub addedMost : ℕ
+addedMost = tasksMost * budgetMost
+
+-- the budget of task i whose counts are the least for a margin
+abbrev pub leastBudget : Arrays → ℕ → ℕ → ℕ
+leastBudget a M i = phasesOf (held (a .phases) (a .work) (a .cost)) .cost (needs (phasesIn (a .work) (a .cost)) M) i
+
+-- what is known of a task from its deadline d on: the new value at t, which is its deadline, otherwise the old one
+abbrev pub settled : ℕ → ℕ → ℕ → ℕ → ℕ
+settled t d new old = if eqb d t then new else old
+
+-- the budget and the margin of task i after the point t, under the least margin so far
+abbrev pub budgetAt : Arrays → ℕ → ℕ → ℕ → ℕ → ℕ
+budgetAt a t low i v = settled t (getD (a .deadline) i 0) (leastBudget a low i) v
+
+abbrev pub cutAt : Arrays → ℕ → ℕ → ℕ → ℕ → ℕ
+cutAt a t low i v = settled t (getD (a .deadline) i 0) low v
+
+-- what a task adds to the demand at t: its budget b where its next deadline v is t
+abbrev pub owed : ℕ → ℕ → ℕ → ℕ
+owed t v b = if eqb v t then b else 0
+
+-- task i, of deadline d, is due at t and has the budget b: at its deadline a new one, and a new margin
+pub record Settles (t d new low i : ℕ) (bs ks bs′ ks′ : List ℕ) (b : ℕ) : Type 0 where
+  pub budget : bs′ ≡ set bs i b
+  pub cuts : ks′ ≡ set ks i (settled t d low (getD ks i 0))
+  pub is : b ≡ settled t d new (getD bs i 0)
+
+-- the point t is taken, with next deadlines nx before it: budgets, margins, and what is added to the demand
+pub record BudgetsSettled (a : Arrays) (t low : ℕ) (nx bs ks bs′ ks′ : List ℕ) (added : ℕ) : Type 0 where
+  pub budget : Mapped (a .tasks) (budgetAt a t low) bs bs′
+  pub cuts : Mapped (a .tasks) (cutAt a t low) ks ks′
+  pub sum : added ≡ sumTo (a .tasks) (λ i. owed t (getD nx i 0) (getD bs′ i 0))
+  pub most : added ≤ addedMost

@@ -1,0 +1,52 @@
+// The tasks' next deadlines, and how the next test point is found among them. Whoever keeps them in another form changes this module.
+use pieces::numbers::wide;
+ghost use mathlib.Core.Path.{_≡_};
+ghost use Prim.Native.Nat.{_+_, _≤_, _<_, min};
+ghost use lib.ListN.{length, set};
+ghost use Rattle.model.specs.Limits.{horizonMost};
+ghost use Rattle.walk.specs.Deadlines.{Earliest};
+
+// The lesser of two.
+pub fn lesser(a: u64, b: u64) -> u64
+    ensures { λ r. ⌜ r ≡ min a b ⌝ }
+{
+    if a < b { a } else { b }
+}
+
+// Each task waits for its first deadline.
+pub fn first_deadlines(d: &[u32; 32]) -> [u64; 32]
+    requires { ⌜ length (now d) ≡ 32 ⌝ }
+    ensures { λ r. ⌜ r ≡ now (d .entry) ⌝ }
+{
+    let mut next = [0u64; 32];
+    let mut i: usize = 0;
+    while i < 32 {
+        next[i] = wide(d[i]);
+        i += 1;
+    }
+    next
+}
+
+// The first test point: the least of the first n next deadlines.
+pub fn front(n: usize, next: &[u64; 32]) -> u64
+    requires { ⌜ (0 < n) × (n ≤ 32) ⌝ }
+    ensures { λ r. ⌜ Earliest n (now (next .entry)) r ⌝ }
+{
+    let mut t = next[0];
+    let mut i: usize = 1;
+    while i < n {
+        t = lesser(t, next[i]);
+        i += 1;
+    }
+    t
+}
+
+// Task i, which is due at t, moves on by its spacing; the answer is the lesser of the soonest deadline so far and its new one.
+pub fn move_on(i: usize, t: u64, spacing: u32, soonest: u64, next: &mut [u64; 32]) -> u64
+    requires { ⌜ (i < 32) × (t ≤ horizonMost) ⌝ }
+    ensures { λ r. ⌜ (now (next .exit) ≡ set (now (next .entry)) i (t + spacing)) × (r ≡ min soonest (t + spacing)) ⌝ }
+{
+    let later = t + wide(spacing);
+    next[i] = later;
+    lesser(soonest, later)
+}

@@ -1,0 +1,136 @@
+// Whether the walk stops at a test point: the demand is above it, or a phase that blocks there has no room in the margin.
+use pieces::numbers::size;
+use pieces::numbers::wide;
+use pieces::task::room_at;
+ghost use mathlib.Core.List.{[]};
+ghost use mathlib.Core.Bool.{false};
+ghost use mathlib.Core.Path.{_≡_};
+ghost use Prim.Native.Nat.{_+_, _-_, _≤_, _<_};
+ghost use lib.ListN.{getD};
+ghost use Rattle.finite.specs.Finite.{Below};
+ghost use Rattle.pieces.specs.Held.{phasesIn};
+ghost use Rattle.walk.specs.Stuck.{BeforeStop, FirstStuck, FirstWhere, PointJudged, Stuck};
+ghost use Rattle.walk.specs.Take.{arraysIn};
+
+// The first phase of task i that has no room in the margin, or the number of its phases where there is none.
+fn lacking<'a>(
+    i: usize,
+    margin: u64,
+    m: &'a [u32; 32],
+    c: &'a [u32; 256],
+    q: &'a [u32; 256],
+) -> usize
+    requires { ⌜ (i < 32) × (getD (now m) i 0 ≤ 8) ⌝ }
+    ensures { λ r. ⌜ FirstWhere (getD (now (m .entry)) i 0) (λ j. phasesIn (now (c .entry)) (now (q .entry)) .room i j margin ≡ false) r ⌝ }
+{
+    let many = size(m[i]);
+    let mut j: usize = 0;
+    while j < many {
+        if room_at(i, j, margin, c, q) {
+            j += 1;
+        } else {
+            return j;
+        }
+    }
+    many
+}
+
+// The first phase of task i that is stuck at t, or the number of its phases where there is none.
+fn stuck_phase<'a>(
+    i: usize,
+    t: u64,
+    margin: u64,
+    d: &'a [u32; 32],
+    m: &'a [u32; 32],
+    c: &'a [u32; 256],
+    q: &'a [u32; 256],
+) -> usize
+    requires { ⌜ (i < 32) × (getD (now m) i 0 ≤ 8) ⌝ }
+    ensures { λ r. ⌜ FirstWhere (getD (now (m .entry)) i 0) (Stuck (arraysIn 0 [] (now (d .entry)) (now (m .entry)) (now (c .entry)) (now (q .entry))) t margin i) r ⌝ }
+{
+    if wide(d[i]) <= t {
+        return size(m[i]);
+    }
+    lacking(i, margin, m, c, q)
+}
+
+// A task and one of its phases, numbered from 0.
+struct Place {
+    task: usize,
+    phase: usize,
+}
+
+// The first task that has a phase stuck at t, with its first such phase, or n where there is none.
+fn first_stuck<'a>(
+    n: usize,
+    t: u64,
+    margin: u64,
+    d: &'a [u32; 32],
+    m: &'a [u32; 32],
+    c: &'a [u32; 256],
+    q: &'a [u32; 256],
+) -> Place
+    requires { ⌜ (n ≤ 32) × Below n (λ i. getD (now m) i 0 ≤ 8) ⌝ }
+    ensures { λ r. ⌜ FirstStuck (arraysIn n [] (now (d .entry)) (now (m .entry)) (now (c .entry)) (now (q .entry))) t margin (r .task) (r .phase) ⌝ }
+{
+    let mut i: usize = 0;
+    while i < n {
+        let j = stuck_phase(i, t, margin, d, m, c, q);
+        if j < size(m[i]) {
+            return Place { task: i, phase: j };
+        }
+        i += 1;
+    }
+    Place { task: n, phase: 0 }
+}
+
+// Whether the walk stops, and the blocked task and phase, numbered from 1, or 0 and 0.
+pub struct Stop {
+    pub stops: bool,
+    pub task: usize,
+    pub phase: usize,
+}
+
+// Only a margin under the least so far can leave a phase stuck.
+pub fn judge_point<'a>(
+    n: usize,
+    t: u64,
+    demand: u64,
+    low: u64,
+    d: &'a [u32; 32],
+    m: &'a [u32; 32],
+    c: &'a [u32; 256],
+    q: &'a [u32; 256],
+) -> Stop
+    requires { ⌜ BeforeStop (arraysIn n [] (now d) (now m) (now c) (now q)) t demand low ⌝ }
+    ensures { λ r. ⌜ PointJudged (arraysIn n [] (now (d .entry)) (now (m .entry)) (now (c .entry)) (now (q .entry))) t demand (r .stops) (r .task) (r .phase) ⌝ }
+{
+    if t < demand {
+        return Stop {
+            stops: true,
+            task: 0,
+            phase: 0,
+        };
+    }
+    let margin = t - demand;
+    if low <= margin {
+        return Stop {
+            stops: false,
+            task: 0,
+            phase: 0,
+        };
+    }
+    let f = first_stuck(n, t, margin, d, m, c, q);
+    if f.task < n {
+        return Stop {
+            stops: true,
+            task: f.task + 1,
+            phase: f.phase + 1,
+        };
+    }
+    Stop {
+        stops: false,
+        task: 0,
+        phase: 0,
+    }
+}
