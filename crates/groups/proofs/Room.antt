@@ -25,24 +25,25 @@ module _ (buffer : List ℕ) (at value : ℕ) where
     pub fits : at + length (encode value) ≤ length buffer → writtenOf buffer at value ≡ To (at + length (encode value))
     fits h = rw (lt-leb (2 ^ 56) value small, le-ltb (length buffer) (at + length (encode value)) h)
 
--- n bytes fit behind `at`, asked without a sum
-pub room-none : (room at n : ℕ) → room < n → false ≡ leb (at + n) room
-room-none room at n h = sym (lt-leb (at + n) room (omega arith))
+-- m bytes fit behind `at`, asked without a sum
+module _ (room at : ℕ) {n m : ℕ} (size : n ≡ m) where
+  pub room-none : room < n → false ≡ leb (at + m) room
+  room-none h = sym (lt-leb (at + m) room (omega arith))
 
-pub room-left : (room at n : ℕ) → n ≤ room → leb at (room - n) ≡ leb (at + n) room
-room-left room at n h = go (le-or-lt at (room - n))
-  where
-    go : (at ≤ room - n) ⊎ (room - n < at) → leb at (room - n) ≡ leb (at + n) room
-    go (inl l) = le-leb at (room - n) l ∙ sym (le-leb (at + n) room (omega arith))
-    go (inr l) = lt-leb at (room - n) l ∙ sym (lt-leb (at + n) room (omega arith))
+  pub room-left : n ≤ room → leb at (room - n) ≡ leb (at + m) room
+  room-left h = go (le-or-lt at (room - n))
+    where
+      go : (at ≤ room - n) ⊎ (room - n < at) → leb at (room - n) ≡ leb (at + m) room
+      go (inl l) = le-leb at (room - n) l ∙ sym (le-leb (at + m) room (omega arith))
+      go (inr l) = lt-leb at (room - n) l ∙ sym (lt-leb (at + m) room (omega arith))
 
 -- the test for room, by what it found
-module _ {b : Bool} {n m : ℕ} (at room : ℕ) (is : b ≡ leb (at + n) room) (size : n ≡ m) where
-  pub room-found : b ≡ true → at + m ≤ room
-  room-found t = omega (arith, leb-true (at + n) room (sym is ∙ t))
+module _ {b : Bool} (n room : ℕ) (is : b ≡ leb n room) where
+  pub room-found : b ≡ true → n ≤ room
+  room-found t = leb-true n room (sym is ∙ t)
 
-  pub room-missed : b ≡ false → room < at + m
-  room-missed f = omega (arith, leb-false (at + n) room (sym is ∙ f))
+  pub room-missed : b ≡ false → room < n
+  room-missed f = leb-false n room (sym is ∙ f)
 
 module _ {buffer : List ℕ} {at value : ℕ} where
   pub writes-large : 2 ^ 56 ≤ value → WritesNumber buffer buffer at value TooLarge

@@ -3,10 +3,13 @@
 use Prim.Native.Nat.{ℕ, _-_, _*_, _≤_, _<_}
 use mathlib.Core.Path.{_≡_, refl, ap, sym, _∙_}
 use mathlib.Core.List.{List}
+use mathlib.Core.Bool.{Bool, true, false, _||_, true≢false}
 use native.Mathlib.Nat.{sub-zero}
 use native.Mathlib.Omega.{arith}
+use lib.Dec.{ltb}
 use lib.ListN.{length, replicate}
-use borrow.Author.Tests.{eq-eqb, ne-eqb, lt-ltb, le-ltb}
+use borrow.Author.Tests.{eq-eqb, ne-eqb, lt-ltb, le-ltb, ltb-false}
+use Rattle.finite.specs.If.{if_then_else_}
 use Rattle.groups.specs.declared.Number.{Number}
 use Rattle.groups.specs.declared.Number.the-variants.{Value, Ends, Malformed}
 use Rattle.groups.specs.Number.{numberAt}
@@ -28,15 +31,20 @@ use Rattle.table.proofs.Valid.{numbers-in-range}
 -- ---- a number
 
 module _ {at value place least most : ℕ} where
-  pub below : {r : NumberRead} → value < least → r ≡ awayAt 4 at → Ranged at value place least most r
-  below h is = rw is (record { is = λ bytes. rw (lt-ltb value least h); high = omega arith })
+  pub outside : {r : NumberRead} → (ltb value least || ltb most value) ≡ true → r ≡ awayAt 4 at → Ranged at value place least most r
+  outside e is = rw is (record { is = λ bytes. go (ltb value least) (ltb most value) e; high = omega arith })
+    where
+      go : (a b : Bool) → (a || b) ≡ true → (if a then away 4 at else if b then away 4 at else got value place) ≡ away 4 at
+      go true b e = refl
+      go false true e = refl
+      go false false e = absurd (true≢false (sym e))
 
-  module _ (low : least ≤ value) where
-    pub above : {r : NumberRead} → most < value → r ≡ awayAt 4 at → Ranged at value place least most r
-    above h is = rw is (record { is = λ bytes. rw (le-ltb value least low, lt-ltb most value h); high = omega arith })
-
-    pub inside : value ≤ most → Ranged at value place least most (record { reason = 0; place = place; value = value })
-    inside h = record { is = λ bytes. rw (le-ltb value least low, le-ltb most value h); high = h }
+  pub inside : (ltb value least || ltb most value) ≡ false → Ranged at value place least most (record { reason = 0; place = place; value = value })
+  inside e = let (low, high) = go (ltb value least) (ltb most value) e in record { is = λ bytes. rw (low, high); high = ltb-false most value high }
+    where
+      go : (a b : Bool) → (a || b) ≡ false → (a ≡ false) × (b ≡ false)
+      go true b e = absurd (true≢false e)
+      go false b e = (refl, e)
 
 module _ {bytes : List ℕ} {at least most : ℕ} {x : Number} (is : x ≡ numberAt bytes at) {r : NumberRead} where
   pub number-found : {value place : ℕ} → x ≡ Value value place → Ranged at value place least most r → NumberAt bytes at least most r

@@ -183,3 +183,6 @@ module _ {limit h : ℕ} {ts : List ℕ} {n i sum t : ℕ} (u : Summed limit h t
       let all : (i + 1) * limit ≤ 32 * limit = mul-le-mul-right limit few in
       let one : (i + 1) * limit ≡ i * limit + limit = add-mul i 1 limit ∙ ap (λ (z : ℕ). i * limit + z) (one-mul limit) in
       (omega (arith, u .small, u .below), omega (arith, u .small, u .below))
+
+pub sum-done : (f : ℕ → ℕ) {n i sum : ℕ} → i ≡ n → sum ≡ sumTo i f → sum ≡ sumTo n f
+sum-done f all so-far = so-far ∙ ap (λ (m : ℕ). sumTo m f) all

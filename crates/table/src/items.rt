@@ -47,10 +47,7 @@ pub struct TasksRead {
 fn ranged(at: usize, value: u64, place: usize, least: u64, most: u64) -> NumberRead
     ensures { λ r. ⌜ Ranged at value place least most r ⌝ }
 {
-    if value < least {
-        return away(4, at);
-    }
-    if most < value {
+    if (value < least) | (most < value) {
         return away(4, at);
     }
     NumberRead {

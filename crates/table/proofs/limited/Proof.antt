@@ -17,7 +17,7 @@ empty-requires : tie.Need-empty-requires
 empty-requires c κs = search needs
 
 returns : tie.Need-returns
-returns c = limited-read (c .before .before .before .limit .ensures) _ (c .before .h .given .1)
+returns c = let k = c .before in limited-read (k .before .before .limit .ensures) _ (k .h .given .1)
 
 returns-2 : tie.Need-returns-2
 returns-2 c = let k = c .before .before in limited-away (k .before .before .limit .ensures) _ (k .reason .given .1) (c .empty .ensures)

@@ -7,7 +7,7 @@ use lib.ListN.{getD}
 use denote.Ref.{now}
 use Rattle.finite.specs.Finite.{sumTo}
 use Rattle.model.specs.Limits.{horizonMost}
-use Rattle.table.proofs.Multiples.{Summed, sum-none, sum-divides, sum-more, sum-small}
+use Rattle.table.proofs.Multiples.{Summed, sum-none, sum-divides, sum-more, sum-small, sum-done}
 use Rattle.table.proofs.horizon.jobs_within.Statement.{statement}
 use Rattle.table.proofs.horizon.jobs_within.Tie as tie
 
@@ -24,7 +24,7 @@ mul-wide : tie.Need-mul-wide Inv-loop μ-loop
 mul-wide c = search needs
 
 element-copy-out-wide : tie.Need-element-copy-out-wide Inv-loop μ-loop
-element-copy-out-wide c = omega (arith, c .before .before .pre .0)
+element-copy-out-wide c = omega arith
 
 wide-requires : tie.Need-wide-requires Inv-loop μ-loop
 wide-requires c κs = search needs
@@ -64,9 +64,7 @@ loop-again : tie.Need-loop-again Inv-loop μ-loop
 loop-again c = (omega arith, sum-small (summed c) .0, sum-more (summed c))
 
 returns : tie.Need-returns Inv-loop μ-loop
-returns c =
-    let done : c .before .loop .i ≡ c .before .before .args .n = omega arith in
-    rw done at (c .before .loop .inv .2)
+returns c = let l = c .before .loop in sum-done _ (omega arith) (l .inv .2)
 
 pub jobs-within-spec : {M : Type 1} → statement M
 jobs-within-spec =

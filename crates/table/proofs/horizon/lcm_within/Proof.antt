@@ -12,7 +12,7 @@ gcd-requires : tie.Need-gcd-requires
 gcd-requires c κs = search needs
 
 -- the greatest common divisor
-divided : (c : tie.After-gcd) → Divided (c .before .args .a) (c .before .args .b) (c .gcd .result)
+divided : (c : tie.After-gcd) → let a = c .before .args in Divided (a .a) (a .b) (c .gcd .result)
 divided c = record { pos = c .before .pre .1; is = c .gcd .ensures }
 
 div-k : tie.Need-div-k

@@ -70,9 +70,10 @@ loop-less c = search needs
 loop-again : tie.Need-loop-again Inv-loop μ-loop
 loop-again c =
     let h = c .before .before .before .before in
-    let t = h .before .before in (
-      t .before .loop .inv .0,
-      go-on (t .before .loop .inv .1)
+    let t = h .before .before in
+    let l = t .before .loop in (
+      l .inv .0,
+      go-on (l .inv .1)
           (again task _ _ _ (t .loop-test .taken) (and-reads (h .head .ensures .leaves _ _) (phases-of _ _ _ (c .phases .ensures)))),
     )
 
