@@ -1,10 +1,10 @@
 -- The items of a table, by what the functions below each answer: a number, a phase, a task, the end, the whole.
 -- Assumes nothing.
-use Prim.Native.Nat.{ℕ, _-_, _*_, _≤_, _<_}
+use Prim.Native.Nat.{ℕ, _+_, _-_, _*_, _≤_, _<_}
 use mathlib.Core.Path.{_≡_, refl, ap, sym, _∙_}
 use mathlib.Core.List.{List}
 use mathlib.Core.Bool.{Bool, true, false, _||_, true≢false}
-use native.Mathlib.Nat.{sub-zero}
+use native.Mathlib.Nat.{add-sub-cancel-left, sub-zero}
 use native.Mathlib.Omega.{arith}
 use lib.Dec.{ltb}
 use lib.ListN.{length, replicate}
@@ -20,9 +20,10 @@ use Rattle.table.specs.declared.Parsing.{Parsing}
 use Rattle.table.specs.declared.Reading.{Reading}
 use Rattle.table.specs.declared.ReadOutcome.the-variants.{TurnedAway as Refused}
 use Rattle.table.specs.declared.items.NumberRead.{NumberRead}
+use Rattle.table.specs.declared.items.Step.{Step}
 use Rattle.table.specs.Parse.{Result, got, away, Parser, andThen, _>>=_, _>>_, done, tested, numberIn, each, phase, task, nothingBehind, numbers, table, empty, withPhase, withTask, parsedOf, limitOf, readingOf}
-use Rattle.table.specs.Steps.{readTo, awayAt, arrays, allTasks, limitedBy, Reads, Leaves, Ranged, NumberAt, NumberFrom, EndFrom}
-use Rattle.table.specs.TaskModel.{tasksOf}
+use Rattle.table.specs.Steps.{readTo, awayAt, allTasks, limitedBy, Reads, Leaves, Ranged, NumberAt, NumberFrom, PhasesFrom, EndFrom}
+use Rattle.table.specs.TaskModel.{arrays, phaseArrays, tasksOf}
 use Rattle.table.specs.Valid.{InRange}
 use Rattle.table.proofs.Ranges.{limited-reading}
 use Rattle.table.proofs.Steps.{next, go-on, then-done}
@@ -83,6 +84,12 @@ module _ {bytes : List ℕ} {reason place : ℕ} where
       → Leaves bytes reason place (task i t) rm pm (each phase count (8 * i) (withTask i spacing deadline count t))
   unfolding task
   head-by i t T D m = go-on (next _ _ T) (go-on (next _ _ D) (next _ _ m))
+
+-- so many phases from a place on, put into a table whose arrays were lent
+pub phases-of : {bytes : List ℕ} {reason place : ℕ} (first count : ℕ) (t : Table) {after : Table → Table} {r : Step}
+    → PhasesFrom bytes reason place first (first + count) (phaseArrays (t .work) (t .cost)) after r
+    → Reads bytes reason place (each phase count first t) (r .reason) (r .place) (after t)
+phases-of first count t f = rw add-sub-cancel-left at (f .reads t)
 
 -- ---- the end, and the whole
 

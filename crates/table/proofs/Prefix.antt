@@ -55,6 +55,19 @@ shape (suc left) longer s p h = rw (lt-leb (length s) p (omega arith)) (go (leb 
     go true ih = front longer (getD s p 0 - 128) p (groups left true s (p + 1)) ih
     go false ih = last-byte longer p (getD s p 0) (eqb (getD s p 0) 0) refl
 
+-- how many bytes a phase has at most, a task, a table: 2,401; and how many decide, since eight bytes of the last number may be looked at
+abbrev phaseLong : ℕ
+phaseLong = 4 + 4
+
+abbrev taskLong : ℕ
+taskLong = 5 + 5 + 1 + phasesMost * phaseLong
+
+abbrev tableLong : ℕ
+tableLong = 1 + tasksMost * taskLong
+
+abbrev deciding : ℕ
+deciding = tableLong + 4
+
 -- so a number below 128 ^ (j + 1) has at most j + 1 bytes
 few-bytes : (j v p next : ℕ) (longer : Bool) → v < 128 ^ suc j → Shape longer p (Value v next) → next ≤ p + suc j
 few-bytes j v p next longer h (k, e, inr (z, f)) = omega arith
@@ -137,41 +150,41 @@ module _ (size : ℕ) (s r : List ℕ) (pre : Prefix size s r) where
       then-alike (p k t s at) (p k t r at) _ (at + part) (at + part * suc left) (one k t at (omega arith))
       (λ t′ next e l. further (omega arith) (each-alike part p one left (k + 1) t′ next (omega arith)))
 
-  phase-alike : (k : ℕ) (t : Table) (at : ℕ) → at + 8 + 4 ≤ size → Alike (phase k t s at) (phase k t r at) (at + 8)
+  phase-alike : (k : ℕ) (t : Table) (at : ℕ) → at + phaseLong + 4 ≤ size → Alike (phase k t s at) (phase k t r at) (at + phaseLong)
   unfolding phase
   phase-alike k t at h =
-      then-alike (numberIn 1 workMost s at) (numberIn 1 workMost r at) _ (at + 4) (at + 8) (number-alike 3 1 workMost at (omega arith) (omega arith))
-      (λ work a e l. then-alike (numberIn 0 costMost s a) (numberIn 0 costMost r a) _ (a + 4) (at + 8) (number-alike 3 0 costMost a (omega arith) (omega arith))
-      (λ cost b f m. done-alike (withPhase k work cost t) b (at + 8) (omega arith)))
+      then-alike (numberIn 1 workMost s at) (numberIn 1 workMost r at) _ (at + 4) (at + phaseLong) (number-alike 3 1 workMost at (omega arith) (omega arith))
+      (λ work a e l. then-alike (numberIn 0 costMost s a) (numberIn 0 costMost r a) _ (a + 4) (at + phaseLong) (number-alike 3 0 costMost a (omega arith) (omega arith))
+      (λ cost b f m. done-alike (withPhase k work cost t) b (at + phaseLong) (omega arith)))
 
-  task-alike : (i : ℕ) (t : Table) (at : ℕ) → at + 75 + 4 ≤ size → Alike (task i t s at) (task i t r at) (at + 75)
+  task-alike : (i : ℕ) (t : Table) (at : ℕ) → at + taskLong + 4 ≤ size → Alike (task i t s at) (task i t r at) (at + taskLong)
   unfolding task
   task-alike i t at h =
-      then-alike (numberIn 1 spacingMost s at) (numberIn 1 spacingMost r at) _ (at + 5) (at + 75) (number-alike 4 1 spacingMost at (omega arith) (omega arith))
-      (λ T a e l. then-alike (numberIn 1 T s a) (numberIn 1 T r a) _ (a + 5) (at + 75)
+      then-alike (numberIn 1 spacingMost s at) (numberIn 1 spacingMost r at) _ (at + 5) (at + taskLong) (number-alike 4 1 spacingMost at (omega arith) (omega arith))
+      (λ T a e l. then-alike (numberIn 1 T s a) (numberIn 1 T r a) _ (a + 5) (at + taskLong)
       (number-alike 4 1 T a (omega (arith, in-range 1 spacingMost s at e)) (omega arith))
-      (λ D b f m. then-alike (numberIn 1 phasesMost s b) (numberIn 1 phasesMost r b) _ (b + 1) (at + 75) (number-alike 0 1 phasesMost b (omega arith) (omega arith))
+      (λ D b f m. then-alike (numberIn 1 phasesMost s b) (numberIn 1 phasesMost r b) _ (b + 1) (at + taskLong) (number-alike 0 1 phasesMost b (omega arith) (omega arith))
       (λ count c g n. let q = in-range 1 phasesMost s b g in
-      further (omega arith) (each-alike 8 phase phase-alike count (8 * i) (withTask i T D count t) c (omega arith)))))
+      further (omega arith) (each-alike phaseLong phase phase-alike count (8 * i) (withTask i T D count t) c (omega arith)))))
 
-  -- the numbers of a table are read alike: the first, and then those of the tasks, which end by 2,401
-  pub count-alike : 2405 ≤ size → Alike (numberIn 1 tasksMost s 0) (numberIn 1 tasksMost r 0) 1
+  -- the numbers of a table are read alike: the first, and then those of the tasks, which end by `tableLong`
+  pub count-alike : deciding ≤ size → Alike (numberIn 1 tasksMost s 0) (numberIn 1 tasksMost r 0) 1
   count-alike h = number-alike 0 1 tasksMost 0 (omega arith) (omega arith)
 
-  pub tasks-alike : (count at : ℕ) → 2405 ≤ size → at ≤ 1 → count ≤ 32
-      → Alike (each task count 0 (withCount count empty) s at) (each task count 0 (withCount count empty) r at) 2401
-  tasks-alike count at h a c = further (omega arith) (each-alike 75 task task-alike count 0 (withCount count empty) at (omega arith))
+  pub tasks-alike : (count at : ℕ) → deciding ≤ size → at ≤ 1 → count ≤ 32
+      → Alike (each task count 0 (withCount count empty) s at) (each task count 0 (withCount count empty) r at) tableLong
+  tasks-alike count at h a c = further (omega arith) (each-alike taskLong task task-alike count 0 (withCount count empty) at (omega arith))
 
   -- both end for one reason
   stop-alike : {A B : Type 0} (x y : Result A) (f : A → Parser B) (reason place far : ℕ) → x ≡ away reason place → y ≡ away reason place
       → Alike (andThen x f s) (andThen y f r) far
   stop-alike x y f reason place far p q = rw (p, q) (away-alike reason place far)
 
-  numbers-alike : 2405 ≤ size → Alike (numbers s 0) (numbers r 0) 0
+  numbers-alike : deciding ≤ size → Alike (numbers s 0) (numbers r 0) 0
   unfolding numbers
   numbers-alike h =
       then-alike (numberIn 1 tasksMost s 0) (numberIn 1 tasksMost r 0) _ 1 0 (count-alike h)
-      (λ count a e l. then-alike (each task count 0 (withCount count empty) s a) (each task count 0 (withCount count empty) r a) _ 2401 0
+      (λ count a e l. then-alike (each task count 0 (withCount count empty) s a) (each task count 0 (withCount count empty) r a) _ tableLong 0
       (tasks-alike count a h l (in-range 1 tasksMost s 0 e .1))
       (λ t b f m. stop-alike (nothingBehind s b) (nothingBehind r b) _ 5 b 0 (bytes-behind s b (omega (arith, pre .first-long))) (bytes-behind r b (omega (arith, pre .second-long)))))
 
@@ -181,7 +194,7 @@ module _ (size : ℕ) (s r : List ℕ) (pre : Prefix size s r) where
       then-alike (horizonInRange S s at) (horizonInRange S r at) _ at at (test-alike (ltb horizonMost (horizonOf S)) 6 at)
       (λ u b e l. further l (test-alike (ltb jobsMost (jobsWithin S (horizonOf S))) 7 b))
 
-  pub table-alike : 2405 ≤ size → table s 0 ≡ table r 0
+  pub table-alike : deciding ≤ size → table s 0 ≡ table r 0
   unfolding table
   table-alike h =
       then-alike (numbers s 0) (numbers r 0) _ 0 0 (numbers-alike h)

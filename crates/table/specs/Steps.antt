@@ -17,7 +17,8 @@ use Rattle.table.specs.declared.Reading.{Reading}
 use Rattle.table.specs.declared.ReadOutcome.{ReadOutcome}
 use Rattle.table.specs.declared.ReadOutcome.the-variants.{Read, TurnedAway}
 use Rattle.table.specs.Parser.{Result, got, away, Parser, _>>=_}
-use Rattle.table.specs.Parse.{empty, tested, numberIn, each, phase, task, nothingBehind, withPhase, withTask}
+use Rattle.table.specs.Parse.{empty, tested, numberIn, each, phase, task, nothingBehind, withTask}
+use Rattle.table.specs.TaskModel.{putPhase}
 
 -- A step is a reason and a place. What was read up to a step, and what is read from it on:
 abbrev pub readTo : {A : Type 0} → (reason place : ℕ) → A → Result A
@@ -54,21 +55,13 @@ pub record NumberFrom (bytes : List ℕ) (reason place least most : ℕ) (r : Nu
 
 -- the numbers of a phase, put at any place of any table
 pub record PhaseFrom (bytes : List ℕ) (reason place : ℕ) (r : PhaseRead) : Type 0 where
-  pub reads : (k : ℕ) (t : Table) → Reads bytes reason place (phase k t) (r .reason) (r .place) (withPhase k (r .work) (r .cost) t)
+  pub reads : (k : ℕ) (t : Table) → Reads bytes reason place (phase k t) (r .reason) (r .place) (putPhase k r t)
 
 -- the numbers of a task, put as those of any task of any table: its phases are left
 pub record HeadFrom (bytes : List ℕ) (reason place : ℕ) (r : HeadRead) : Type 0 where
   pub leaves : (i : ℕ) (t : Table)
       → Leaves bytes reason place (task i t) (r .reason) (r .place) (each phase (r .phases) (8 * i) (withTask i (r .spacing) (r .deadline) (r .phases) t))
   pub few : r .phases ≤ phasesMost
-
--- a table with other arrays for the phases
-abbrev pub phaseArrays : (work cost : List ℕ) → Table → Table
-phaseArrays work cost t = record { tasks = t .tasks; spacing = t .spacing; deadline = t .deadline; phases = t .phases; work = work; cost = cost }
-
--- the table of so many tasks that stands in arrays
-abbrev pub arrays : (spacing deadline phases work cost : List ℕ) → ℕ → Table
-arrays spacing deadline phases work cost n = record { tasks = n; spacing = spacing; deadline = deadline; phases = phases; work = work; cost = cost }
 
 -- the phases from a place up to another, put into any table
 pub record PhasesFrom (bytes : List ℕ) (reason place first last : ℕ) (before after : Table → Table) (r : Step) : Type 0 where

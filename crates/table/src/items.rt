@@ -5,7 +5,8 @@ use crate::Table;
 use groups::Number;
 ghost use mathlib.Core.Path.{_≡_};
 ghost use Prim.Native.Nat.{_≤_};
-ghost use Rattle.table.specs.Steps.{arrays, phaseArrays, awayAt, Ranged, NumberAt, NumberFrom, PhaseFrom, HeadFrom, PhasesFrom, TasksFrom, EndFrom};
+ghost use Rattle.table.specs.Steps.{awayAt, Ranged, NumberAt, NumberFrom, PhaseFrom, HeadFrom, PhasesFrom, TasksFrom, EndFrom};
+ghost use Rattle.table.specs.TaskModel.{arrays, phaseArrays};
 
 pub struct Step {
     pub reason: u8,
