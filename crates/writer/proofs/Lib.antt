@@ -1,7 +1,5 @@
-pub mod Runs
 pub mod Outcomes
 pub mod Sizes
 pub mod Columns
 pub mod RoundTrip
 pub mod ReadBack
-pub mod Prefix

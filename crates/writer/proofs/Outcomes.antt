@@ -1,24 +1,23 @@
 -- The three answers of writing a table, and that the contract allows one outcome only.
-use Prim.Native.Nat.{ℕ, _+_, _≤_, _<_}
+use Prim.Native.Nat.{ℕ, _+_, _*_, _≤_, _<_}
 use mathlib.Core.Path.{_≡_, refl, ap, sym, _∙_}
 use mathlib.Core.List.{List, _++_}
 use mathlib.Core.Logic.{_⊎_, inl, inr}
-use mathlib.Core.Bool.{Bool, true, false}
+use mathlib.Core.Bool.{Bool, true, false, _||_, true≢false}
 use native.Mathlib.Omega.{arith}
-use native.Mathlib.Nat.{zero-add}
-use borrow.Author.Tests.{lt-ltb, le-ltb}
+use borrow.Author.Tests.{lt-ltb, le-ltb, ltb-false}
 use lib.Dec.{ltb}
-use lib.ListN.{length, getD, drop, length-append}
-use lib.Seq.{sets-eq}
+use lib.ListN.{length, getD, drop}
 use Rattle.finite.specs.Finite.{anyTo}
 use Rattle.finite.specs.laws.Tests.{failed, le-or-lt, ltb-decides}
 use Rattle.finite.specs.laws.Searches.{any-decides}
-use Rattle.groups.specs.Encode.{encode, encodeAll}
-use Rattle.groups.specs.Run.{Wrote as Placed}
+use Rattle.groups.specs.Pass.{Fits, Passed}
+use Rattle.groups.proofs.Numbers.{eight-each, join-count}
+use Rattle.groups.proofs.Passes.{in-front}
 use Rattle.table.specs.declared.Table.{Table}
-use Rattle.writer.specs.declared.Written.{Written}
-use Rattle.writer.specs.declared.Written.the-variants.{Wrote, NoRoom, OutOfRange}
-use Rattle.writer.specs.Written.{tasksFrom, tableBytes, overfull, Writes}
+use Rattle.writer.specs.declared.TableWritten.{TableWritten}
+use Rattle.writer.specs.declared.TableWritten.the-variants.{Wrote, NoRoom, OutOfRange}
+use Rattle.writer.specs.Written.{phaseNumbers, taskNumbers, tableNumbers, tableBytes, overfull, Writes}
 
 -- the test of the phases, for a table
 abbrev pub longTask : Table → Bool
@@ -34,42 +33,78 @@ few t e i h = go (le-or-lt (getD (t .phases) i 0) 8)
         absurd
         (failed (any-decides (t .tasks) (λ j. ltb 8 (getD (t .phases) j 0)) (λ j. 8 < getD (t .phases) j 0) (λ j _. ltb-decides 8 (getD (t .phases) j 0))) e (i, h, l))
 
--- the number of tasks, and the tasks
-pub first-and-tasks : (t : Table) → tableBytes t ≡ encode (t .tasks) ++ encodeAll (tasksFrom (t .tasks) 0 t)
-unfolding encodeAll
-first-and-tasks t = refl
+-- a table that its arrays hold
+pub record Held (t : Table) : Type 0 where
+  pub tasks-most : t .tasks ≤ 32
+  pub phases-most : (i : ℕ) → i < t .tasks → getD (t .phases) i 0 ≤ 8
 
-pub whole-length : (t : Table) → length (tableBytes t) ≡ length (encode (t .tasks)) + length (encodeAll (tasksFrom (t .tasks) 0 t))
-whole-length t = ap length (first-and-tasks t) ∙ length-append (encode (t .tasks)) (encodeAll (tasksFrom (t .tasks) 0 t))
+pub held : (t : Table) → overfull t ≡ false → Held t
+unfolding overfull
+held t e = go (ltb 32 (t .tasks)) refl (longTask t) refl e
+  where
+    go : (x : Bool) → ltb 32 (t .tasks) ≡ x → (y : Bool) → longTask t ≡ y → (x || y) ≡ false → Held t
+    go true a y b e = absurd (true≢false e)
+    go false a true b e = absurd (true≢false e)
+    go false a false b e = record { tasks-most = ltb-false 32 (t .tasks) a; phases-most = few t b }
+
+-- what the code's two tests leave
+pub arrays-hold : (t : Table) {found : Bool} → t .tasks ≤ 32 → found ≡ longTask t → found ≡ false → overfull t ≡ false
+unfolding overfull
+arrays-hold t h e f = rw (le-ltb 32 (t .tasks) h, sym e ∙ f)
+
+pub few-tasks : (t : Table) → overfull t ≡ false → t .tasks ≤ 32
+few-tasks t e = held t e .tasks-most
+
+-- its phases have places in the arrays
+pub phases-inside : (t : Table) (i : ℕ) → overfull t ≡ false → i < t .tasks → 8 * i + getD (t .phases) i 0 ≤ 256
+phases-inside t i e h = let k = held t e in omega (arith, k .tasks-most, k .phases-most i h)
+
+-- so few numbers can be measured: two a phase, and so at most 19 a task
+task-few : (t : Table) (i : ℕ) → getD (t .phases) i 0 ≤ 8 → length (taskNumbers t i) ≤ 19
+unfolding taskNumbers
+task-few t i h =
+    let m = getD (t .phases) i 0 in
+    let own = join-count 2 m (λ j. phaseNumbers (t .work) (t .cost) (8 * i + j)) (λ j l. omega arith) in
+    omega arith
+
+module _ (t : Table) (e : overfull t ≡ false) where
+  pub can-be-measured : {out : List ℕ} → Fits false out 0 (tableNumbers t)
+  can-be-measured = record {
+    most =
+        let h = held t e in
+        omega (arith, h .tasks-most, eight-each (tableNumbers t), join-count 19 (t .tasks) (taskNumbers t) (λ i l. task-few t i (h .phases-most i l)));
+  }
+
+  module _ {before between : List ℕ} {n : ℕ} (v : Passed false before between 0 n (tableNumbers t)) where
+    pub measured-fits : n ≤ length between → Fits true between 0 (tableNumbers t)
+    measured-fits h = record { most = omega (arith, v .next-is) }
+
+    pub no-room : length between < n → Writes t before between NoRoom
+    no-room l = record { result-is = rw (e, short); after-is = rw (e, short) (v .after-is) }
+      where
+        short : ltb (length before) (length (tableBytes t)) ≡ true
+        short = lt-ltb (length before) (length (tableBytes t)) (omega (arith, v .next-is, ap length (v .after-is)))
+
+    pub placed : {after : List ℕ} {next : ℕ} → n ≤ length between → Passed true between after 0 next (tableNumbers t) → Writes t before after (Wrote next)
+    placed {after} {next} h w =
+        let f = in-front (omega (arith, v .next-is)) w in
+        record {
+          result-is = rw (e, room) (ap Wrote (f .0));
+          after-is = rw (e, room) (f .1 ∙ ap (λ (b : List ℕ). tableBytes t ++ drop (length (tableBytes t)) b) (v .after-is));
+        }
+      where
+        room : ltb (length before) (length (tableBytes t)) ≡ false
+        room = le-ltb (length before) (length (tableBytes t)) (omega (arith, v .next-is, ap length (v .after-is)))
 
 module _ (t : Table) (before : List ℕ) where
   pub many-tasks : 32 < t .tasks → Writes t before before OutOfRange
   unfolding overfull
   many-tasks h = record { result-is = rw (lt-ltb 32 (t .tasks) h); after-is = rw (lt-ltb 32 (t .tasks) h) }
 
-  module _ (h : t .tasks ≤ 32) where
-    pub many-phases : longTask t ≡ true → Writes t before before OutOfRange
-    unfolding overfull
-    many-phases e = record { result-is = rw (le-ltb 32 (t .tasks) h, e); after-is = rw (le-ltb 32 (t .tasks) h, e) }
-
-    module _ (e : longTask t ≡ false) where
-      fits : overfull t ≡ false
-      unfolding overfull
-      fits = rw (le-ltb 32 (t .tasks) h, e)
-
-      pub no-room : length before < length (tableBytes t) → Writes t before before NoRoom
-      no-room l = record {
-        result-is = rw (fits, lt-ltb (length before) (length (tableBytes t)) l);
-        after-is = rw (fits, lt-ltb (length before) (length (tableBytes t)) l);
-      }
-
-      pub placed : {after : List ℕ} {next : ℕ} → 0 + length (tableBytes t) ≤ length before → Placed before after 0 next (tableBytes t) → Writes t before after (Wrote next)
-      placed {after} {next} l w = record {
-        result-is = rw (fits, le-ltb (length before) (length (tableBytes t)) (omega arith)) (ap Wrote (w .next-is ∙ zero-add (length (tableBytes t))));
-        after-is = rw (fits, le-ltb (length before) (length (tableBytes t)) (omega arith))
-            (w .after-is ∙ sets-eq (tableBytes t) before 0 l ∙ ap (λ (k : ℕ). tableBytes t ++ drop k before) (zero-add (length (tableBytes t))));
-      }
+  pub many-phases : {found : Bool} → t .tasks ≤ 32 → found ≡ longTask t → found ≡ true → Writes t before before OutOfRange
+  unfolding overfull
+  many-phases h e f = record { result-is = rw (le-ltb 32 (t .tasks) h, sym e ∙ f); after-is = rw (le-ltb 32 (t .tasks) h, sym e ∙ f) }
 
 -- any two outcomes that the contract allows are equal
-pub one-outcome : {t : Table} {before after after′ : List ℕ} {r r′ : Written} → Writes t before after r → Writes t before after′ r′ → (r ≡ r′) × (after ≡ after′)
+pub one-outcome : {t : Table} {before after after′ : List ℕ} {r r′ : TableWritten} → Writes t before after r → Writes t before after′ r′ → (r ≡ r′) × (after ≡ after′)
 one-outcome w v = (w .result-is ∙ sym (v .result-is), w .after-is ∙ sym (v .after-is))

@@ -14,8 +14,8 @@ use Rattle.finite.specs.If.{if_then_else_}
 use Rattle.table.specs.declared.Table.{Table}
 use Rattle.table.specs.Parse.{got, table}
 use Rattle.table.specs.Valid.{Valid}
-use Rattle.writer.specs.declared.Written.{Written}
-use Rattle.writer.specs.declared.Written.the-variants.{Wrote, NoRoom, OutOfRange}
+use Rattle.writer.specs.declared.TableWritten.{TableWritten}
+use Rattle.writer.specs.declared.TableWritten.the-variants.{Wrote, NoRoom, OutOfRange}
 use Rattle.writer.specs.Written.{tableBytes, overfull, Writes}
 use Rattle.writer.proofs.Outcomes.{longTask}
 use Rattle.writer.proofs.RoundTrip.{table-round-trip}
@@ -23,14 +23,14 @@ use Rattle.writer.proofs.RoundTrip.{table-round-trip}
 no-long-task : (t : Table) → Valid t → longTask t ≡ false
 no-long-task t v =
     fails (any-decides (t .tasks) (λ i. ltb 8 (getD (t .phases) i 0)) (λ i. 8 < getD (t .phases) i 0) (λ i _. ltb-decides 8 (getD (t .phases) i 0)))
-    (λ h. omega (arith, h .2, v .task (h .0) (h .1) .phases-most))
+    (λ h. omega (arith, h .2, v .in-range .items .task (h .0) (h .1) .phases-most))
 
 pub not-overfull : (t : Table) → Valid t → overfull t ≡ false
 unfolding overfull
-not-overfull t v = rw (le-ltb 32 (t .tasks) (v .tasks-most), no-long-task t v)
+not-overfull t v = rw (le-ltb 32 (t .tasks) (v .in-range .items .tasks), no-long-task t v)
 
 -- a valid table is written where there is room
-pub valid-written : {t : Table} {before after : List ℕ} {r : Written} → Valid t → length (tableBytes t) ≤ length before → Writes t before after r
+pub valid-written : {t : Table} {before after : List ℕ} {r : TableWritten} → Valid t → length (tableBytes t) ≤ length before → Writes t before after r
     → r ≡ Wrote (length (tableBytes t))
 valid-written {t} {before} v h w = w .result-is ∙ rw (not-overfull t v, le-ltb (length before) (length (tableBytes t)) h)
 

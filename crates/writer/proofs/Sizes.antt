@@ -1,78 +1,69 @@
 -- A valid table has at most 2,401 bytes.
-use Prim.Native.Nat.{ℕ, zero, suc, _+_, _-_, _*_, _≤_, _<_}
-use mathlib.Core.Path.{_≡_, refl}
-use mathlib.Core.List.{List, [], _∷_, _++_}
+use Prim.Native.Nat.{ℕ, _+_, _-_, _*_, _≤_, _<_}
+use mathlib.Core.List.{List, [], _∷_}
 use native.Mathlib.Omega.{arith}
-use lib.ListN.{length, getD, length-append}
-use Rattle.groups.specs.Encode.{encode, encodeAll}
+use lib.ListN.{length, getD}
+use Rattle.finite.specs.Finite.{joinTo}
+use Rattle.groups.specs.Encode.{encodeAll}
+use Rattle.groups.proofs.Numbers.{cons, join-short, none}
 use Rattle.groups.proofs.Writing.{short}
+use Rattle.model.specs.Limits.{costMost, workMost}
+use Rattle.model.specs.laws.Arrays.{phase-at}
 use Rattle.table.specs.declared.Table.{Table}
-use Rattle.table.specs.Valid.{Phase, Valid}
-use Rattle.writer.specs.Written.{phasesFrom, tasksFrom, tableBytes}
-use Rattle.writer.proofs.Runs.{encodeAll-append}
-use Rattle.writer.proofs.Outcomes.{whole-length}
+use Rattle.table.specs.Valid.{Valid}
+use Rattle.writer.specs.Written.{phaseNumbers, taskNumbers, tableBytes}
 
--- the bytes of numbers, one behind the other
-pub none : length (encodeAll []) ≡ 0
-unfolding encodeAll
-none = refl
-
-pub cons : (n : ℕ) (ns : List ℕ) → length (encodeAll (n ∷ ns)) ≡ length (encode n) + length (encodeAll ns)
-unfolding encodeAll
-cons n ns = length-append (encode n) (encodeAll ns)
-
-pub append : (ms ns : List ℕ) → length (encodeAll (ms ++ ns)) ≡ length (encodeAll ms) + length (encodeAll ns)
-append ms ns = rw encodeAll-append (length-append (encodeAll ms) (encodeAll ns))
-
--- phases from `place` on
-abbrev pub PhasesIn : (left place : ℕ) (work cost : List ℕ) → Type 0
-PhasesIn left place work cost = (j : ℕ) → place ≤ j → j < place + left → Phase (getD work j 0) (getD cost j 0)
-
-pub phases-short : (left place : ℕ) (work cost : List ℕ) → PhasesIn left place work cost → length (encodeAll (phasesFrom left place work cost)) ≤ 8 * left
-unfolding phasesFrom encodeAll
-phases-short zero place work cost h = omega arith
-phases-short (suc left) place work cost h =
-    let c = getD work place 0 in
-    let q = getD cost place 0 in
-    let p = h place (omega arith) (omega arith) in
-    let rest = phasesFrom left (place + 1) work cost in
-    omega (
-      arith,
-      phases-short left (place + 1) work cost (λ j a b. h j (omega arith) (omega arith)),
-      length-append (encode c) (encode q ++ encodeAll rest),
-      length-append (encode q) (encodeAll rest),
-      short 3 7 c (omega arith),
-      short 3 7 q (omega arith),
-    )
+-- a phase in its range, at a place of the arrays
+pub record PhaseAt (work cost : List ℕ) (place : ℕ) : Type 0 where
+  pub work-least : 1 ≤ getD work place 0
+  pub work-most : getD work place 0 ≤ workMost
+  pub cost-most : getD cost place 0 ≤ costMost
 
 -- the phases of task i
-pub phases-of : (t : Table) → Valid t → (i : ℕ) → i < t .tasks → PhasesIn (getD (t .phases) i 0) (8 * i) (t .work) (t .cost)
-phases-of t v i h j a b = rw (there j a) at (v .place i (j - 8 * i) (omega (arith, v .task i h)) .used (omega arith))
-  where
-    there : (j : ℕ) → 8 * i ≤ j → 8 * i + (j - 8 * i) ≡ j
-    there j a = omega arith
+pub phase-of : (t : Table) → Valid t → (i j : ℕ) → i < t .tasks → j < getD (t .phases) i 0 → PhaseAt (t .work) (t .cost) (8 * i + j)
+phase-of t v i j h l =
+    let items = v .in-range .items in
+    let few : j < 8 = omega (arith, items .task i h .phases-most) in
+    let p = items .phase i j h l in
+    record {
+      work-least = omega (arith, p .work-least, phase-at (t .work) i j few);
+      work-most = omega (arith, p .work-most, phase-at (t .work) i j few);
+      cost-most = omega (arith, p .cost-most, phase-at (t .cost) i j few);
+    }
 
 module _ (t : Table) (v : Valid t) where
-  tasks-short : (left i : ℕ) → i + left ≤ t .tasks → length (encodeAll (tasksFrom left i t)) ≤ 75 * left
-  unfolding tasksFrom
-  tasks-short zero i h = omega (arith, none)
-  tasks-short (suc left) i h =
-      let k = v .task i (omega arith) in
+  phase-short : (place : ℕ) → PhaseAt (t .work) (t .cost) place → length (encodeAll (phaseNumbers (t .work) (t .cost) place)) ≤ 8
+  phase-short k p =
+      let c = getD (t .work) k 0 in
+      let q = getD (t .cost) k 0 in
+      omega (arith, cons c (q ∷ []), cons q [], none, short 3 7 c (omega arith), short 3 7 q (omega arith))
+
+  task-short : (i : ℕ) → i < t .tasks → length (encodeAll (taskNumbers t i)) ≤ 75
+  unfolding taskNumbers
+  task-short i h =
+      let k = v .in-range .items .task i h in
+      let T = getD (t .spacing) i 0 in
+      let D = getD (t .deadline) i 0 in
       let m = getD (t .phases) i 0 in
-      let own = phasesFrom m (8 * i) (t .work) (t .cost) in
-      let rest = tasksFrom left (i + 1) t in
+      let own = joinTo m (λ j. phaseNumbers (t .work) (t .cost) (8 * i + j)) in
       omega (
         arith,
-        tasks-short left (i + 1) (omega arith),
-        phases-short m (8 * i) (t .work) (t .cost) (phases-of t v i (omega arith)),
-        cons (getD (t .spacing) i 0) (getD (t .deadline) i 0 ∷ m ∷ own ++ rest),
-        cons (getD (t .deadline) i 0) (m ∷ own ++ rest),
-        cons m (own ++ rest),
-        append own rest,
-        short 4 7 (getD (t .spacing) i 0) (omega arith),
-        short 4 7 (getD (t .deadline) i 0) (omega arith),
-        short 0 7 m (omega arith),
+        k .phases-most,
+        join-short 8 m (λ j. phaseNumbers (t .work) (t .cost) (8 * i + j)) (λ j l. phase-short (8 * i + j) (phase-of t v i j h l)),
+        cons T (D ∷ m ∷ own),
+        cons D (m ∷ own),
+        cons m own,
+        short 4 7 T (omega (arith, k .spacing-most)),
+        short 4 7 D (omega (arith, k .spacing-most, k .deadline-most)),
+        short 0 7 m (omega (arith, k .phases-most)),
       )
 
   pub table-short : length (tableBytes t) ≤ 2401
-  table-short = omega (arith, whole-length t, v .tasks-most, tasks-short (t .tasks) 0 (omega arith), short 0 7 (t .tasks) (omega (arith, v .tasks-most)))
+  table-short =
+      let most = v .in-range .items .tasks in
+      omega (
+        arith,
+        cons (t .tasks) (joinTo (t .tasks) (taskNumbers t)),
+        join-short 75 (t .tasks) (taskNumbers t) task-short,
+        short 0 7 (t .tasks) (omega arith),
+      )

@@ -2,11 +2,12 @@
 use Prim.Native.Nat.{ℕ}
 use mathlib.Core.List.{List, [], _∷_, map}
 use mathlib.Core.Path.{_≡_, refl}
+use Rattle.finite.specs.Finite.{joinTo}
 use Rattle.groups.specs.Number.{groups}
 use Rattle.groups.specs.Encode.{encodeIn, encodeAll}
 use Rattle.table.specs.declared.Table.{Table}
 use Rattle.table.specs.Parse.{Result, got, away, numberIn, each, phase, task, empty, andThen, withCount}
-use Rattle.writer.specs.Written.{phasesFrom, tasksFrom, tableBytes}
+use Rattle.writer.specs.Written.{taskNumbers, tableBytes}
 
 -- the numbers of a table, read as document 01 has them
 abbrev numbers : List ℕ → Result Table
@@ -27,5 +28,5 @@ examples =
     ∷ []
 
 pub written-again : map (λ (s : List ℕ). again (numbers s)) examples ≡ examples
-unfolding task phase each numberIn groups empty tasksFrom phasesFrom encodeAll encodeIn
+unfolding task phase each numberIn groups empty taskNumbers joinTo encodeAll encodeIn
 written-again = refl

@@ -1,32 +1,30 @@
 -- DEFINITIONS. The bytes of a table, as document 01 has them ("Bytes of table and answer"), and what writing them gives and leaves.
-use Prim.Native.Nat.{ℕ, zero, suc, _+_, _*_}
+use Prim.Native.Nat.{ℕ, _+_, _*_}
 use mathlib.Core.List.{List, [], _∷_, _++_}
 use mathlib.Core.Bool.{Bool, _||_}
 use mathlib.Core.Path.{_≡_}
 use lib.ListN.{length, getD, drop}
 use lib.Dec.{ltb}
-use Rattle.finite.specs.Finite.{anyTo}
+use Rattle.finite.specs.Finite.{anyTo, joinTo}
 use Rattle.finite.specs.If.{if_then_else_}
 use Rattle.groups.specs.Encode.{encodeAll}
 use Rattle.table.specs.declared.Table.{Table}
-use Rattle.writer.specs.declared.Written.{Written}
-use Rattle.writer.specs.declared.Written.the-variants.{Wrote, NoRoom, OutOfRange}
+use Rattle.writer.specs.declared.TableWritten.{TableWritten}
+use Rattle.writer.specs.declared.TableWritten.the-variants.{Wrote, NoRoom, OutOfRange}
 
--- `left` phases, the first of them at place `place`: for each phase c, q
-unfoldable pub phasesFrom : (left place : ℕ) (work cost : List ℕ) → List ℕ
-phasesFrom zero place work cost = []
-phasesFrom (suc left) place work cost = getD work place 0 ∷ getD cost place 0 ∷ phasesFrom left (place + 1) work cost
+-- a phase, at a place of the arrays: c, q
+abbrev pub phaseNumbers : (work cost : List ℕ) → ℕ → List ℕ
+phaseNumbers work cost place = getD work place 0 ∷ getD cost place 0 ∷ []
 
--- `left` tasks, the first of them task i: for each task T, D, the number of phases; then its phases, from place 8 i on
-unfoldable pub tasksFrom : (left i : ℕ) → Table → List ℕ
-tasksFrom zero i t = []
-tasksFrom (suc left) i t =
+-- a task: T, D, the number of phases; then its phases, from place 8 i on
+unfoldable pub taskNumbers : Table → ℕ → List ℕ
+taskNumbers t i =
     getD (t .spacing) i 0 ∷ getD (t .deadline) i 0 ∷ getD (t .phases) i 0
-    ∷ phasesFrom (getD (t .phases) i 0) (8 * i) (t .work) (t .cost) ++ tasksFrom left (i + 1) t
+    ∷ joinTo (getD (t .phases) i 0) (λ j. phaseNumbers (t .work) (t .cost) (8 * i + j))
 
 -- a table: the number of tasks, the tasks, and nothing behind them
 abbrev pub tableNumbers : Table → List ℕ
-tableNumbers t = t .tasks ∷ tasksFrom (t .tasks) 0 t
+tableNumbers t = t .tasks ∷ joinTo (t .tasks) (taskNumbers t)
 
 abbrev pub tableBytes : Table → List ℕ
 tableBytes t = encodeAll (tableNumbers t)
@@ -36,7 +34,7 @@ unfoldable pub overfull : Table → Bool
 overfull t = ltb 32 (t .tasks) || anyTo (t .tasks) (λ i. ltb 8 (getD (t .phases) i 0))
 
 -- what writing a table into a buffer of so many bytes answers
-abbrev pub answerOf : Table → (room : ℕ) → Written
+abbrev pub answerOf : Table → (room : ℕ) → TableWritten
 answerOf t room =
     if overfull t then OutOfRange
     else if ltb room (length (tableBytes t)) then NoRoom
@@ -50,6 +48,6 @@ bufferOf t buffer =
     else tableBytes t ++ drop (length (tableBytes t)) buffer
 
 -- what writing gives and leaves
-pub record Writes (t : Table) (before after : List ℕ) (result : Written) : Type 0 where
+pub record Writes (t : Table) (before after : List ℕ) (result : TableWritten) : Type 0 where
   pub result-is : result ≡ answerOf t (length before)
   pub after-is : after ≡ bufferOf t before

@@ -1,72 +1,125 @@
 // Writes a task table in bytes.
+// A pass over a table's numbers puts their bytes one behind the other where `put` says so, and otherwise only counts them: so the length that is
+// tested and what is written come of one and the same pass.
 use table::Table;
+ghost use mathlib.Core.Bool.{false};
+ghost use mathlib.Core.List.{[], _∷_};
 ghost use mathlib.Core.Path.{_≡_};
-ghost use Prim.Native.Nat.{ℕ, _+_, _-_, _*_, _≤_, _<_};
+ghost use Prim.Native.Nat.{_+_, _*_, _≤_, _<_};
 ghost use lib.Dec.{ltb};
 ghost use lib.ListN.{length, getD};
-ghost use Rattle.finite.specs.Finite.{anyTo};
-ghost use Rattle.groups.specs.Encode.{encode, encodeAll};
-ghost use Rattle.groups.specs.Run.{Wrote as Placed};
-ghost use Rattle.writer.specs.Written.{phasesFrom, tasksFrom, Writes};
+ghost use Rattle.finite.specs.Finite.{anyTo, joinTo};
+ghost use Rattle.groups.specs.Pass.{Fits, Passed};
+ghost use Rattle.writer.specs.Written.{phaseNumbers, taskNumbers, tableNumbers, overfull, Writes};
 
 // What writing a table answers: the number of its bytes, or why nothing was written.
-pub enum Written {
+pub enum TableWritten {
     Wrote(usize),
     NoRoom,
     OutOfRange,
 }
 
-// Writes one number from `at` on, where there is room for it, and returns the place behind it.
-fn number(out: &mut [u8], at: usize, value: u32) -> usize
-    requires { ⌜ at + length (encode value) ≤ length (now out) ⌝ }
-    ensures { λ r. ⌜ Placed (now (out .entry)) (now (out .exit)) at r (encode value) ⌝ }
+// One number.
+fn number(out: &mut [u8], at: usize, value: u32, put: bool) -> usize
+    requires { ⌜ Fits put (now out) at (value ∷ []) ⌝ }
+    ensures { λ r. ⌜ Passed put (now (out .entry)) (now (out .exit)) at r (value ∷ []) ⌝ }
 {
-    groups::put(out, at, value as u64)
-}
-
-// How many bytes a number has.
-fn number_length(value: u32) -> usize
-    ensures { λ r. ⌜ (r ≡ length (encode value)) × (r ≤ 5) ⌝ }
-{
-    let mut rest = value;
-    let mut bytes: usize = 1;
-    while 128 <= rest {
-        rest = rest / 128;
-        bytes = bytes + 1;
+    if put {
+        return groups::put(out, at, value as u64);
     }
-    bytes
+    at + groups::size(value as u64)
 }
 
-// How many bytes the phases at the places from `first` up to `last` have; the arrays have 256 places.
-fn phases_length<'a>(work: &'a [u32; 256], cost: &'a [u32; 256], first: usize, last: usize) -> usize
-    requires { ⌜ last ≤ 256 ⌝ }
-    ensures { λ r. ⌜ (r ≡ length (encodeAll (phasesFrom (last - first) first (now (work .entry)) (now (cost .entry))))) × (r ≤ 10 * (last - first)) ⌝ }
+// Two numbers: a phase's c, q.
+fn two(out: &mut [u8], at: usize, first: u32, second: u32, put: bool) -> usize
+    requires { ⌜ Fits put (now out) at (first ∷ second ∷ []) ⌝ }
+    ensures { λ r. ⌜ Passed put (now (out .entry)) (now (out .exit)) at r (first ∷ second ∷ []) ⌝ }
 {
-    let mut bytes: usize = 0;
-    let mut place = first;
-    while place < last {
-        bytes = bytes + number_length(work[place]) + number_length(cost[place]);
-        place = place + 1;
+    let next = number(out, at, first, put);
+    number(out, next, second, put)
+}
+
+// Three numbers: a task's T, D, and its number of phases.
+fn three(out: &mut [u8], at: usize, first: u32, second: u32, third: u32, put: bool) -> usize
+    requires { ⌜ Fits put (now out) at (first ∷ second ∷ third ∷ []) ⌝ }
+    ensures { λ r. ⌜ Passed put (now (out .entry)) (now (out .exit)) at r (first ∷ second ∷ third ∷ []) ⌝ }
+{
+    let next = number(out, at, first, put);
+    two(out, next, second, third, put)
+}
+
+// So many phases, the first of them at place `first`; the arrays have 256 places.
+fn phases<'a>(
+    out: &mut [u8],
+    at: usize,
+    work: &'a [u32; 256],
+    cost: &'a [u32; 256],
+    first: usize,
+    count: usize,
+    put: bool,
+) -> usize
+    requires { ⌜ (first + count ≤ 256) × Fits put (now out) at (joinTo count (λ j. phaseNumbers (now work) (now cost) (first + j))) ⌝ }
+    ensures { λ r. ⌜ Passed put (now (out .entry)) (now (out .exit)) at r (joinTo count (λ j. phaseNumbers (now (work .entry)) (now (cost .entry)) (first + j))) ⌝ }
+{
+    let mut next = at;
+    let mut j: usize = 0;
+    while j < count {
+        next = two(out, next, work[first + j], cost[first + j], put);
+        j = j + 1;
     }
-    bytes
+    next
 }
 
-// How many bytes the tasks have; the arrays have 32 places, and 8 for the phases of a task.
-fn tasks_length(table: Table) -> usize
-    requires { ⌜ (table .tasks ≤ 32) × ((i : ℕ) → i < table .tasks → getD (table .phases) i 0 ≤ 8) ⌝ }
-    ensures { λ r. ⌜ (r ≡ length (encodeAll (tasksFrom (table .tasks) 0 table))) × (r ≤ 95 * table .tasks) ⌝ }
+// A task: T, D, the number of phases; then the phases, the first of them at place `first`.
+fn task<'a>(
+    out: &mut [u8],
+    at: usize,
+    spacing: u32,
+    deadline: u32,
+    count: u32,
+    work: &'a [u32; 256],
+    cost: &'a [u32; 256],
+    first: usize,
+    put: bool,
+) -> usize
+    requires { ⌜ (first + count ≤ 256) × Fits put (now out) at (spacing ∷ deadline ∷ count ∷ joinTo count (λ j. phaseNumbers (now work) (now cost) (first + j))) ⌝ }
+    ensures { λ r. ⌜ Passed put (now (out .entry)) (now (out .exit)) at r (spacing ∷ deadline ∷ count ∷ joinTo count (λ j. phaseNumbers (now (work .entry)) (now (cost .entry)) (first + j))) ⌝ }
 {
-    let mut bytes: usize = 0;
+    let next = three(out, at, spacing, deadline, count, put);
+    phases(out, next, work, cost, first, count as usize, put)
+}
+
+// The tasks; the arrays have 32 places, and 8 for the phases of a task.
+fn tasks(out: &mut [u8], at: usize, table: Table, put: bool) -> usize
+    requires { ⌜ (table .tasks ≤ 32) × (overfull table ≡ false) × Fits put (now out) at (joinTo (table .tasks) (taskNumbers table)) ⌝ }
+    ensures { λ r. ⌜ Passed put (now (out .entry)) (now (out .exit)) at r (joinTo (table .tasks) (taskNumbers table)) ⌝ }
+{
+    let mut next = at;
     let mut i: usize = 0;
     while i < table.tasks {
-        let count = table.phases[i] as usize;
-        let numbers = number_length(table.spacing[i])
-            + number_length(table.deadline[i])
-            + number_length(table.phases[i]);
-        bytes = bytes + numbers + phases_length(&table.work, &table.cost, 8 * i, 8 * i + count);
+        next = task(
+            out,
+            next,
+            table.spacing[i],
+            table.deadline[i],
+            table.phases[i],
+            &table.work,
+            &table.cost,
+            8 * i,
+            put,
+        );
         i = i + 1;
     }
-    bytes
+    next
+}
+
+// The whole table: the number of tasks, and the tasks.
+fn numbers(out: &mut [u8], table: Table, put: bool) -> usize
+    requires { ⌜ (table .tasks ≤ 32) × (overfull table ≡ false) × Fits put (now out) 0 (tableNumbers table) ⌝ }
+    ensures { λ r. ⌜ Passed put (now (out .entry)) (now (out .exit)) 0 r (tableNumbers table) ⌝ }
+{
+    let at = number(out, 0, table.tasks as u32, put);
+    tasks(out, at, table, put)
 }
 
 // Whether one of the first `count` tasks has more than 8 phases; the array has 32 places.
@@ -83,61 +136,28 @@ fn long_task(phases: &[u32; 32], count: usize) -> bool
     found
 }
 
-// Writes the phases at the places from `first` up to `last` from `at` on, where there is room for them, and returns the place behind them.
-fn phases<'a>(
-    out: &mut [u8],
-    at: usize,
-    work: &'a [u32; 256],
-    cost: &'a [u32; 256],
-    first: usize,
-    last: usize,
-) -> usize
-    requires { ⌜ (last ≤ 256) × (at + length (encodeAll (phasesFrom (last - first) first (now work) (now cost))) ≤ length (now out)) ⌝ }
-    ensures { λ r. ⌜ Placed (now (out .entry)) (now (out .exit)) at r (encodeAll (phasesFrom (last - first) first (now (work .entry)) (now (cost .entry)))) ⌝ }
+// Writes a table that its arrays hold, where there is room for all its bytes.
+fn write_held(table: Table, out: &mut [u8]) -> TableWritten
+    requires { ⌜ overfull table ≡ false ⌝ }
+    ensures { λ r. ⌜ Writes table (now (out .entry)) (now (out .exit)) r ⌝ }
 {
-    let mut p = at;
-    let mut place = first;
-    while place < last {
-        p = number(out, p, work[place]);
-        p = number(out, p, cost[place]);
-        place = place + 1;
+    let length = numbers(out, table, false);
+    if out.len() < length {
+        return TableWritten::NoRoom;
     }
-    p
-}
-
-// Writes the tasks from `at` on, where there is room for them, and returns the place behind them.
-fn tasks(out: &mut [u8], at: usize, table: Table) -> usize
-    requires { ⌜ (table .tasks ≤ 32) × ((i : ℕ) → i < table .tasks → getD (table .phases) i 0 ≤ 8) × (at + length (encodeAll (tasksFrom (table .tasks) 0 table)) ≤ length (now out)) ⌝ }
-    ensures { λ r. ⌜ Placed (now (out .entry)) (now (out .exit)) at r (encodeAll (tasksFrom (table .tasks) 0 table)) ⌝ }
-{
-    let mut p = at;
-    let mut i: usize = 0;
-    while i < table.tasks {
-        let count = table.phases[i] as usize;
-        p = number(out, p, table.spacing[i]);
-        p = number(out, p, table.deadline[i]);
-        p = number(out, p, table.phases[i]);
-        p = phases(out, p, &table.work, &table.cost, 8 * i, 8 * i + count);
-        i = i + 1;
-    }
-    p
+    TableWritten::Wrote(numbers(out, table, true))
 }
 
 // Writes the table's bytes to the front of the buffer. Nothing is written where the buffer is shorter than they are, or where the table has more
 // tasks or phases than its arrays hold.
-pub fn write(table: Table, out: &mut [u8]) -> Written
+pub fn write(table: Table, out: &mut [u8]) -> TableWritten
     ensures { λ r. ⌜ Writes table (now (out .entry)) (now (out .exit)) r ⌝ }
 {
     if Table::TASKS_MOST < table.tasks as u64 {
-        return Written::OutOfRange;
+        return TableWritten::OutOfRange;
     }
     if long_task(&table.phases, table.tasks) {
-        return Written::OutOfRange;
+        return TableWritten::OutOfRange;
     }
-    let length = number_length(table.tasks as u32) + tasks_length(table);
-    if out.len() < length {
-        return Written::NoRoom;
-    }
-    let at = number(out, 0, table.tasks as u32);
-    Written::Wrote(tasks(out, at, table))
+    write_held(table, out)
 }

@@ -1,16 +1,16 @@
 -- The laws of lists given place by place, of lists that a loop fills from the front, one place a turn, and of tests of every place.
 -- Assumes nothing.
-use mathlib.Core.Path.{_≡_, refl, sym, ap, _∙_}
+use mathlib.Core.Path.{_≡_, refl, sym, ap, ap₂, _∙_}
 use mathlib.Core.Bool.{Bool, true, _&&_}
-use mathlib.Core.Logic.{_⊎_, ⊎-elim}
-use mathlib.Core.List.{List, [], _∷_}
+use mathlib.Core.Logic.{_⊎_, inl, inr, ⊎-elim}
+use mathlib.Core.List.{List, [], _∷_, _++_, append-assoc, append-nil}
 use Prim.Native.Nat.{ℕ, zero, suc, _+_, _≤_, _<_}
 use native.Mathlib.Nat.{le-refl, eq-or-lt-of-le}
 use native.Mathlib.Numerals.{add-one}
 use native.Mathlib.Omega.{arith}
 use lib.ListN.{length, getD, set, length-set, length-append, List·getD-append}
 use lib.Seq.{getD-set-same, getD-set-other, getD-at, ext-getD}
-use Rattle.finite.specs.Finite.{allTo, listTo}
+use Rattle.finite.specs.Finite.{allTo, joinTo, listTo}
 
 -- an index below n + 1 is n or below n
 pub last-or-below : {k n : ℕ} → k < suc n → (k ≡ n) ⊎ (k < n)
@@ -94,6 +94,54 @@ module _ {A : Type 0} where
       ext-getD d (listTo n (λ k. getD a k d)) a
       (length-list n (λ k. getD a k d) ∙ sym e)
       (λ i h. getD-list n (λ k. getD a k d) i d (omega (arith, length-list n (λ k. getD a k d))))
+
+-- ---- lists one after the other
+
+module _ {A : Type 0} where
+  -- one list more
+  pub join-more : (n : ℕ) (f : ℕ → List A) → joinTo (n + 1) f ≡ joinTo n f ++ f n
+  unfolding joinTo
+  join-more n f = rw add-one
+
+  -- two joins of lists that are alike
+  pub join-alike : (n : ℕ) (f g : ℕ → List A) → ((k : ℕ) → k < n → f k ≡ g k) → joinTo n f ≡ joinTo n g
+  unfolding joinTo
+  join-alike zero f g h = refl
+  join-alike (suc n) f g h = rw (join-alike n f g (λ k l. h k (omega arith)), h n (omega arith))
+
+  -- a list given place by place, as lists of one
+  pub list-join : (n : ℕ) (f : ℕ → A) → listTo n f ≡ joinTo n (λ k. f k ∷ [])
+  unfolding listTo joinTo
+  list-join zero f = refl
+  list-join (suc n) f = rw (list-join n f)
+
+  -- the first of them in front of the others
+  pub join-first : (n : ℕ) (f : ℕ → List A) → joinTo (suc n) f ≡ f 0 ++ joinTo n (λ k. f (suc k))
+  unfolding joinTo
+  join-first zero f = sym (append-nil (f 0))
+  join-first (suc n) f = ap (λ (l : List A). l ++ f (suc n)) (join-first n f) ∙ append-assoc (f 0) (joinTo n (λ k. f (suc k))) (f (suc n))
+
+  -- the same of those from place k on
+  pub join-from : (n k : ℕ) (f : ℕ → List A) → joinTo (suc n) (λ j. f (k + j)) ≡ f k ++ joinTo n (λ j. f (k + 1 + j))
+  join-from n k f =
+      let here : k + 0 ≡ k = omega arith in
+      join-first n (λ j. f (k + j))
+      ∙ ap₂ (λ (x : List A) (y : List A). x ++ y) (ap f here) (join-alike n (λ j. f (k + suc j)) (λ j. f (k + 1 + j)) (λ j l. ap f (next j)))
+    where
+      next : (j : ℕ) → k + suc j ≡ k + 1 + j
+      next j = omega arith
+
+  -- the first i of them in front of the others
+  pub join-part : (i n : ℕ) (f : ℕ → List A) → i ≤ n → (rest : List A) × (joinTo n f ≡ joinTo i f ++ rest)
+  unfolding joinTo
+  join-part i zero f h = let none : i ≡ 0 = omega arith in ([], ap (λ (k : ℕ). joinTo k f) (sym none) ∙ sym (append-nil (joinTo i f)))
+  join-part i (suc n) f h = go (eq-or-lt-of-le h) (λ l. join-part i n f l)
+    where
+      go : (i ≡ suc n) ⊎ (i < suc n) → (i ≤ n → (rest : List A) × (joinTo n f ≡ joinTo i f ++ rest)) → (rest : List A) × (joinTo (suc n) f ≡ joinTo i f ++ rest)
+      go (inl e) shorter = ([], ap (λ (k : ℕ). joinTo k f) (sym e) ∙ sym (append-nil (joinTo i f)))
+      go (inr l) shorter =
+          let p = shorter (omega arith) in
+          (p .0 ++ f n, ap (λ (r : List A). r ++ f n) (p .1) ∙ append-assoc (joinTo i f) (p .0) (f n))
 
 -- ---- a loop that tests every place
 

@@ -1,74 +1,55 @@
--- `writer::phases` meets its contract: what is left to be written is what the phases that are left have. Assumes nothing.
+-- `writer::phases` meets its contract: a pass over the phases, one a turn. Assumes nothing.
 use Prim.Native.Nat.{_+_, _-_}
-use mathlib.Core.Path.{refl}
-use mathlib.Core.List.{_++_}
 use borrow.Author.Needs.{needs}
-use denote.Ref.{now}
-use lib.ListN.{getD}
-use Rattle.groups.specs.Encode.{encode, encodeAll}
-use Rattle.groups.proofs.Runs.{Left, begin, finished, room, wrote}
-use Rattle.writer.specs.Written.{phasesFrom}
-use Rattle.writer.proofs.Runs.{phase-more, no-phase}
+use Rattle.groups.proofs.Passes.{Passing, begins, part-fits, part-passed, all-passed, same-long}
+use Rattle.writer.specs.Written.{phaseNumbers}
 use Rattle.writer.proofs.phases.Statement.{statement}
 use Rattle.writer.proofs.phases.Tie as tie
 
 abbrev Inv-loop : tie.InvT-loop
-Inv-loop out₀ at work cost first last p₀ place₀ out p place =
-    Left out₀ at (encodeAll (phasesFrom (last - first) first work cost)) out p (encodeAll (phasesFrom (last - place) place work cost))
+Inv-loop out₀ at work cost first count put p₀ j₀ out p j = Passing put out₀ at count (λ k. phaseNumbers work cost (first + k)) out p j
 
 abbrev μ-loop : tie.MeasureT-loop
-μ-loop out₀ at work cost first last p₀ place₀ out p place = last - place
+μ-loop out₀ at work cost first count put p₀ j₀ out p j = count - j
 
 loop-holds : tie.Need-loop-holds Inv-loop μ-loop
-loop-holds c = begin _ _ _
+loop-holds c = search (needs, begins)
 
-mul-number : tie.Need-mul-number Inv-loop μ-loop
-mul-number c = search needs
+add-two : tie.Need-add-two Inv-loop μ-loop
+add-two c = search needs
 
-element-copy-out-number : tie.Need-element-copy-out-number Inv-loop μ-loop
-element-copy-out-number c = search needs
+mul-two : tie.Need-mul-two Inv-loop μ-loop
+mul-two c = search needs
 
-number-requires : tie.Need-number-requires Inv-loop μ-loop
-number-requires c κs =
-    let l = c .before .before .before in
-    room (l .loop .inv) (encode _) _ (phase-more _ _ _ _ (c .before .before .loop-test .taken)) (l .before .before .pre .1)
+element-copy-out-two : tie.Need-element-copy-out-two Inv-loop μ-loop
+element-copy-out-two c = search needs
 
--- after the work, the cost is left and then the other phases
-work-written : (r : tie.After-number Inv-loop μ-loop) → let l = r .before .before .before .before in let a = l .before .before .args in
-    Left (now (a .out)) (a .at) (encodeAll (phasesFrom (a .last - a .first) (a .first) (now (a .work)) (now (a .cost)))) (r .number .last .0) (r .number .result)
-    (encode (getD (now (a .cost)) (l .loop .place) 0)
-    ++ encodeAll (phasesFrom (a .last - (l .loop .place + 1)) (l .loop .place + 1) (now (a .work)) (now (a .cost))))
-work-written r =
-    let l = r .before .before .before .before in
-    wrote (l .loop .inv) (encode _) _ (phase-more _ _ _ _ (r .before .before .before .loop-test .taken)) (r .number .ensures)
+add-two-2 : tie.Need-add-two-2 Inv-loop μ-loop
+add-two-2 c = search needs
 
-mul-number-2 : tie.Need-mul-number-2 Inv-loop μ-loop
-mul-number-2 c = search needs
+mul-two-2 : tie.Need-mul-two-2 Inv-loop μ-loop
+mul-two-2 c = search needs
 
-element-copy-out-number-2 : tie.Need-element-copy-out-number-2 Inv-loop μ-loop
-element-copy-out-number-2 c = search needs
+element-copy-out-two-2 : tie.Need-element-copy-out-two-2 Inv-loop μ-loop
+element-copy-out-two-2 c = search needs
 
-number-requires-2 : tie.Need-number-requires-2 Inv-loop μ-loop
-number-requires-2 c κs =
-    let r = c .before .before .before .before in
-    room (work-written r) (encode _) _ refl (r .before .before .before .before .before .before .pre .1)
+two-requires : tie.Need-two-requires Inv-loop μ-loop
+two-requires c κs = search (needs, part-fits)
 
-add-place : tie.Need-add-place Inv-loop μ-loop
-add-place c = search needs
+add-j : tie.Need-add-j Inv-loop μ-loop
+add-j c = search needs
 
 loop-less : tie.Need-loop-less Inv-loop μ-loop
 loop-less c = search needs
 
 loop-again : tie.Need-loop-again Inv-loop μ-loop
-loop-again c =
-    let r = c .before .before .before .before .before .before .before in
-    wrote (work-written r) (encode _) _ refl (c .before .before .number2 .ensures)
+loop-again c = search (needs, part-passed)
 
 same-length : tie.Need-same-length Inv-loop μ-loop
-same-length c = c .before .loop .inv .long
+same-length c = search (needs, same-long)
 
 returns : tie.Need-returns Inv-loop μ-loop
-returns c = finished (c .before .loop .inv) (no-phase _ _ _ _ (c .loop-test .left))
+returns c = search (needs, all-passed)
 
 pub phases-spec : {M : Type 1} → statement M
 phases-spec =
@@ -77,13 +58,14 @@ phases-spec =
     Inv-loop
     μ-loop
     loop-holds
-    mul-number
-    element-copy-out-number
-    number-requires
-    mul-number-2
-    element-copy-out-number-2
-    number-requires-2
-    add-place
+    add-two
+    mul-two
+    element-copy-out-two
+    add-two-2
+    mul-two-2
+    element-copy-out-two-2
+    two-requires
+    add-j
     loop-less
     loop-again
     same-length
