@@ -3,7 +3,7 @@
 use mathlib.Core.List.{List}
 use Prim.Native.Nat.{ℕ}
 use Rattle.model.specs.Tasks.{Tasks}
-use Rattle.model.specs.Phase.{plain}
+use Rattle.model.specs.Phase.{phasesOf}
 use Rattle.model.specs.Answer.{answer}
 use Rattle.model.specs.TestPoints.{horizonOf}
 use Rattle.model.specs.Walk.{verdict}
@@ -19,7 +19,7 @@ pub data Saying : Type 0 where
 
 -- what is said of tasks that were read
 unfoldable pub saysOf : Tasks → Saying
-saysOf S = writes (encodeAll (answer S (plain S) (horizonOf S) (verdict S (plain S) (horizonOf S))))
+saysOf S = writes (encodeAll (answer S (phasesOf S) (horizonOf S) (verdict S (phasesOf S) (horizonOf S))))
 
 abbrev pub saysIn : Result Table → Saying
 saysIn (got t next) = saysOf (tasksOf t)

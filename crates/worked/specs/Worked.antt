@@ -7,13 +7,14 @@ use Rattle.finite.specs.Finite.{anyTo, findTo, maxTo, sumTo}
 use Rattle.groups.specs.Number.{groups}
 use Rattle.groups.specs.Encode.{encodeIn, encodeAll}
 use Rattle.model.specs.Demand.{demand, jobs}
-use Rattle.model.specs.Phase.{budget, ceilDiv, longestPiece, pieceLength}
+use Rattle.model.specs.Phase.{budget, ceilDiv, longestPiece, phasesOf, pieceLength}
+use Rattle.model.specs.Tasks.{Tasks}
 use Rattle.finite.specs.Finite.{joinTo, listTo}
 use Rattle.model.specs.Answer.{answer}
 use Rattle.model.specs.TestPoints.{gcd, gcdIn, horizonOf, isTest, lcm, lcmTo}
 use Rattle.model.specs.Walk.{blockedPhase, blockedTask, lacks, move, moveAt, moveIn, raiseLow, verdict, walk}
 use Rattle.model.specs.Works.{longest}
-use Rattle.table.specs.Parse.{table, task, phase, each, numberIn, empty}
+use Rattle.table.specs.Parse.{table, numbers, task, phase, each, numberIn, empty}
 use Rattle.table.specs.TaskModel.{jobsWithin}
 use Rattle.worked.specs.Says.{Saying, writes, turnsAway, says, saysOf}
 
@@ -82,9 +83,13 @@ H = says (two (taskBytes 10 10 4 1) (taskBytes 10 10 4 1)) is accepted 10 1 (1 �
 abbrev pub I : Example
 I = says (two (taskBytes 4 4 3 0) (taskBytes 6 6 2 0)) is refused 12 13 4 0 0
 
+-- a task with one phase, c 9 and q 0
+abbrev nine : Tasks
+nine = record { n = 1; T = λ i. 9; D = λ i. 9; m = λ i. 1; c = λ i j. 9; q = λ i j. 0 }
+
 -- 9 in 4 pieces, q 0: lengths 3, 2, 2, 2
 abbrev pub J : Example
-J = writes (listTo 4 (pieceLength 9 0 4)) is writes (3 ∷ 2 ∷ 2 ∷ 2 ∷ [])
+J = writes (listTo 4 (phasesOf nine .length 0 0 4)) is writes (3 ∷ 2 ∷ 2 ∷ 2 ∷ [])
 
 -- bytes 80 00: turned away 3 0
 abbrev pub K : Example
@@ -99,5 +104,5 @@ worked = A ∷ B ∷ C ∷ D ∷ E ∷ F ∷ G ∷ H ∷ I ∷ J ∷ K ∷ L ∷
 
 -- THE CLAIM, by computation
 pub worked-tables : map (λ e. e .given) worked ≡ map (λ e. e .said) worked
-unfolding says saysOf jobsWithin table task phase each numberIn groups empty encodeIn encodeAll sumTo maxTo anyTo findTo jobs demand isTest gcdIn gcd lcm lcmTo horizonOf ceilDiv longestPiece budget pieceLength longest raiseLow lacks blockedTask blockedPhase moveIn moveAt move walk verdict listTo joinTo answer
+unfolding says saysOf jobsWithin table numbers task phase each numberIn groups empty encodeIn encodeAll sumTo maxTo anyTo findTo jobs demand isTest gcdIn gcd lcm lcmTo horizonOf ceilDiv longestPiece budget pieceLength longest raiseLow lacks blockedTask blockedPhase moveIn moveAt move walk verdict listTo joinTo answer
 worked-tables = refl
