@@ -1,5 +1,5 @@
 // Prints the verdict on a table, as document 01 has it ("Worked tables").
-use answer::Outcome;
+use edf::JudgeOutcome;
 use groups::Number;
 use libc::STDOUT_FILENO;
 
@@ -48,12 +48,12 @@ fn accepted(table: &[u8], answer: &[u8]) {
 pub fn verdict(table: &[u8]) {
     let mut answer = [0u8; answer::ANSWER_ROOM];
     match edf::judge(table, &mut answer) {
-        Outcome::TurnedAway(reason, place) => show::turned_away(
+        JudgeOutcome::TurnedAway(reason, place) => show::turned_away(
             b"turned away",
             reason,
             place as u64,
         ),
-        Outcome::Answered(_) => {
+        JudgeOutcome::Answered(_) => {
             if answer[0] == 0 {
                 accepted(table, &answer);
             } else {

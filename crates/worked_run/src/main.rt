@@ -1,7 +1,7 @@
 // Runs the worked tables of document 01 through the judge and prints, for each, its letter and the answer's bytes, or the reason and the place
 // for turning it away. They are the byte strings of crate `worked`'s list. J, the lengths of a phase's pieces, is not a table: the list has it of
 // the definitions alone, and it does not stand here.
-use answer::Outcome;
+use edf::JudgeOutcome;
 use libc::STDOUT_FILENO;
 
 // A byte as a number, behind a space.
@@ -24,12 +24,12 @@ fn run(letter: &[u8], table: &[u8]) {
     io::write_all(STDOUT_FILENO, letter);
     let mut answer = [0u8; answer::ANSWER_ROOM];
     match edf::judge(table, &mut answer) {
-        Outcome::TurnedAway(reason, place) => show::turned_away(
+        JudgeOutcome::TurnedAway(reason, place) => show::turned_away(
             b" turned away",
             reason,
             place as u64,
         ),
-        Outcome::Answered(length) => line_of_bytes(&answer, length),
+        JudgeOutcome::Answered(length) => line_of_bytes(&answer, length),
     }
 }
 
