@@ -8,6 +8,7 @@ ghost use Prim.Native.Nat.{_≤_};
 ghost use Rattle.table.specs.Steps.{awayAt, Ranged, NumberAt, NumberFrom, PhaseFrom, HeadFrom, PhasesFrom, TasksFrom, EndFrom};
 ghost use Rattle.table.specs.TaskModel.{arrays, phaseArrays};
 
+// Where reading stands.
 pub struct Step {
     pub reason: u8,
     pub place: usize,
@@ -205,15 +206,8 @@ pub fn tasks(
         spacings[i] = h.spacing;
         deadlines[i] = h.deadline;
         sizes[i] = h.phases;
-        let s = phases(
-            bytes,
-            h.reason,
-            h.place,
-            8 * i,
-            8 * i + h.phases as usize,
-            works,
-            costs,
-        );
+        let last = 8 * i + h.phases as usize;
+        let s = phases(bytes, h.reason, h.place, 8 * i, last, works, costs);
         reason = s.reason;
         place = s.place;
         i = i + 1;

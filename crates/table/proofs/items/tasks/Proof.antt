@@ -47,17 +47,17 @@ mul-sizes c = search needs
 element-write-sizes : tie.Need-element-write-sizes Inv-loop μ-loop
 element-write-sizes c = search needs
 
+mul-last : tie.Need-mul-last Inv-loop μ-loop
+mul-last c = search needs
+
+cast-last : tie.Need-cast-last Inv-loop μ-loop
+cast-last c = search needs
+
+add-last : tie.Need-add-last Inv-loop μ-loop
+add-last c = search needs
+
 mul-phases : tie.Need-mul-phases Inv-loop μ-loop
 mul-phases c = search needs
-
-mul-phases-2 : tie.Need-mul-phases-2 Inv-loop μ-loop
-mul-phases-2 c = search needs
-
-cast-phases : tie.Need-cast-phases Inv-loop μ-loop
-cast-phases c = search needs
-
-add-phases : tie.Need-add-phases Inv-loop μ-loop
-add-phases c = search needs
 
 phases-requires : tie.Need-phases-requires Inv-loop μ-loop
 phases-requires c κs = search needs
@@ -85,5 +85,5 @@ pub tasks-spec : {M : Type 1} → statement M
 tasks-spec =
     tie.close
     (tie.spec Inv-loop μ-loop number-requires loop-holds returns head-requires mul-spacings element-write-spacings mul-deadlines
-    element-write-deadlines mul-sizes element-write-sizes mul-phases mul-phases-2 cast-phases add-phases phases-requires add-i loop-less loop-again
+    element-write-deadlines mul-sizes element-write-sizes mul-last cast-last add-last mul-phases phases-requires add-i loop-less loop-again
     returns-2)
