@@ -1,5 +1,5 @@
 -- `groups::size` meets its contract. The invariant: the bytes counted so far and those of what is left make the number's. Assumes nothing.
-use Prim.Native.Nat.{_+_, _-_, _≤_}
+use Prim.Native.Nat.{_+_, _-_}
 use mathlib.Core.Path.{_≡_}
 use native.Mathlib.Omega.{arith}
 use borrow.Author.Needs.{needs}
