@@ -34,7 +34,7 @@ pub data StopsAt (a : Arrays) (t demand : ℕ) : ℕ → ℕ → Type 0 where
   blocked : {i j : ℕ} → demand ≤ t → i < a .tasks → FirstStuck a t (t - demand) i j → StopsAt a t demand (i + 1) (j + 1)
 
 -- it goes on
-pub record GoesOn (a : Arrays) (t demand : ℕ) : Type 0 where
+pub record WalksOn (a : Arrays) (t demand : ℕ) : Type 0 where
   pub fits : demand ≤ t
   pub free : Below (a .tasks) (λ i. StuckTask a t (t - demand) i → ⊥)
 
@@ -47,4 +47,4 @@ pub record BeforeStop (a : Arrays) (t demand low : ℕ) : Type 0 where
 -- what is answered
 pub record PointJudged (a : Arrays) (t demand : ℕ) (stops : Bool) (task phase : ℕ) : Type 0 where
   pub stop : stops ≡ true → StopsAt a t demand task phase
-  pub go : stops ≡ false → GoesOn a t demand
+  pub go : stops ≡ false → WalksOn a t demand

@@ -10,7 +10,7 @@ use Rattle.model.specs.Arrays.{Arrays}
 use Rattle.model.specs.Limits.{horizonMost}
 use Rattle.walk.specs.Deadlines.{Earliest}
 use Rattle.walk.specs.End.{WalkEnds, accepted, refused, walkedOf}
-use Rattle.walk.specs.Stuck.{BeforeStop, GoesOn, StopsAt}
+use Rattle.walk.specs.Stuck.{BeforeStop, WalksOn, StopsAt}
 use Rattle.walk.specs.Take.{BeforePoint, PointTaken, unspaced}
 use Rattle.walk.specs.Walk.{PointStep, Reached, WalkState, Walkable, start, startOf, step}
 use Rattle.walk.specs.declared.walk.Walked.{Walked}
@@ -68,11 +68,11 @@ module _ {a : Arrays} {h : ℕ} {next budget cuts : List ℕ} {low demand points
         (refused (record { accepted = refl; from = _; reached = k .reached; end = _; step = stepped _ refl; demand = refl; points = refl; stops = s }))
 
     -- or it goes on to the next point, which lies after this one
-    pub standing-more : GoesOn (unspaced a) t (demand + added) → {low′ : ℕ} → low′ ≡ min low (t - (demand + added)) → Standing a h next′ budget′ cuts′ low′ (demand + added) (points + 1) soonest
+    pub standing-more : WalksOn (unspaced a) t (demand + added) → {low′ : ℕ} → low′ ≡ min low (t - (demand + added)) → Standing a h next′ budget′ cuts′ low′ (demand + added) (points + 1) soonest
     standing-more go {low′} e =
         record { lim = k .lim; last = t; reached = step t (k .reached) (stepped low′ e) go; earliest = taken .deadlines .earliest }
 
-    pub standing-later : GoesOn (unspaced a) t (demand + added) → t < soonest
+    pub standing-later : WalksOn (unspaced a) t (demand + added) → t < soonest
     standing-later go =
         let r : Reached a h (stateOf next′ budget′ cuts′ (min low (t - (demand + added))) (demand + added) (points + 1) t) = step t (k .reached) (stepped _ refl) go in
         later a h (k .lim) _ soonest (bounded a h (k .lim) r) (taken .deadlines .earliest)

@@ -10,7 +10,7 @@ use borrow.Author.Count.{below-more}
 use Rattle.finite.specs.Finite.{Below}
 use Rattle.finite.specs.laws.Tests.{le-or-lt}
 use Rattle.model.specs.Arrays.{Arrays}
-use Rattle.walk.specs.Stuck.{BeforeStop, FirstStuck, FirstWhere, GoesOn, PointJudged, StopsAt, Stuck, StuckTask, blocked, overloaded}
+use Rattle.walk.specs.Stuck.{BeforeStop, FirstStuck, FirstWhere, WalksOn, PointJudged, StopsAt, Stuck, StuckTask, blocked, overloaded}
 
 first-none : {n : ℕ} {P : ℕ → Type 0} → Below n (λ k. P k → ⊥) → FirstWhere n P n
 first-none h = record { within = omega arith; earlier = h; found = λ l. absurd (omega arith) }
@@ -78,7 +78,7 @@ module _ {a : Arrays} {t demand : ℕ} where
   stops-with : {task phase : ℕ} → StopsAt a t demand task phase → PointJudged a t demand true task phase
   stops-with s = record { stop = λ _. s; go = λ e. absurd (true≢false e) }
 
-  goes-with : {task phase : ℕ} → GoesOn a t demand → PointJudged a t demand false task phase
+  goes-with : {task phase : ℕ} → WalksOn a t demand → PointJudged a t demand false task phase
   goes-with g = record { stop = λ e. absurd (true≢false (sym e)); go = λ _. g }
 
   pub stops-over : t < demand → PointJudged a t demand true 0 0
