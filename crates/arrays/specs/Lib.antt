@@ -1,4 +1,3 @@
 pub mod Masks
 pub mod Rules
-pub mod Ranges
 pub mod laws

@@ -1,5 +1,4 @@
-// The dispatcher's rules and ranges, one array at a time. Arrays are lent, never copied. A function that is lent an array says `requires` for its
+// The dispatcher's rules, one array at a time. Arrays are lent, never copied. A function that is lent an array says `requires` for its
 // length, which the type gives every caller: behind a reference the prover does not know it.
 pub mod numbers;
-pub mod ranges;
 pub mod rules;

@@ -1,4 +1,5 @@
 pub mod Record
 pub mod Ranges
 pub mod Start
+pub mod Lent
 pub mod laws

@@ -8,21 +8,18 @@ use lib.ListN.{getD, replicate}
 use Rattle.arrays.specs.Masks.{bit, digit}
 use Rattle.finite.specs.Finite.{listTo}
 use Rattle.records.specs.declared.Dispatcher.{Dispatcher}
-use Rattle.model.specs.Arrays.{phaseAt}
+use Rattle.model.specs.Arrays.{Arrays, asTasks, phaseAt}
 use Rattle.model.specs.Phase.{Choice}
 use Rattle.model.specs.Tasks.{Tasks}
 use Rattle.promise.specs.Rules.{Request, State}
 
--- the table in a record: arrays of 256 have eight places for each task
+-- the arrays of a record's table
+abbrev pub arraysIn : Dispatcher → Arrays
+arraysIn d = record { tasks = d .tasks; spacing = d .spacing; deadline = d .deadline; phases = d .phases; work = d .work; cost = d .cost }
+
+-- its table
 abbrev pub tasksIn : Dispatcher → Tasks
-tasksIn d = record {
-  n = d .tasks;
-  T = λ i. getD (d .spacing) i 0;
-  D = λ i. getD (d .deadline) i 0;
-  m = λ i. getD (d .phases) i 0;
-  c = phaseAt (d .work);
-  q = phaseAt (d .cost);
-}
+tasksIn d = asTasks (arraysIn d)
 
 -- its counts
 abbrev pub countsIn : Dispatcher → Choice

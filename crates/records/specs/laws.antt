@@ -1,5 +1,8 @@
 -- What is proved of the definitions beside this folder.
-pub mod Views
 pub mod Fields
-pub mod Ranging
 pub mod InRange
+pub mod Views
+pub mod Recorded
+pub mod Empty
+pub mod Lent
+pub mod Tested

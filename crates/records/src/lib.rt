@@ -1,6 +1,13 @@
-// The dispatcher's record, held by value.
+// The dispatcher's record, held by value, and the test of its range.
+mod ranges;
+
+use crate::ranges::changing_in;
+use crate::ranges::running_in;
+use crate::ranges::table_in;
 ghost use mathlib.Core.Path.{_≡_};
+ghost use Rattle.records.specs.Ranges.{inRange};
 ghost use Rattle.records.specs.Record.{emptyRecord};
+ghost use Rattle.records.specs.laws.Fields.{Long};
 
 // The record. T, D and the number of phases of each task; c, q and the count of each phase, eight places for each task; then what a tick changes:
 // the ticks since the last admitted release, whether a job is unfinished (1, else 0), its time left, its phase and piece; the running task and the
@@ -48,4 +55,42 @@ impl Dispatcher {
     {
         Dispatcher::EMPTY
     }
+}
+
+// Whether every field is in its range; and the lengths of the arrays, for who calls.
+pub fn in_range(d: Dispatcher) -> bool
+    ensures { λ r. ⌜ (r ≡ inRange d) × Long d ⌝ }
+{
+    let runs = running_in(
+        d.running,
+        d.tasks,
+        d.ticks,
+        &d.unfinished,
+        &d.phase,
+        &d.piece,
+        &d.work,
+        &d.cost,
+        &d.counts,
+    );
+    let table = table_in(
+        d.tasks,
+        &d.spacing,
+        &d.deadline,
+        &d.phases,
+        &d.work,
+        &d.cost,
+        &d.counts,
+    );
+    let changing = changing_in(
+        &d.spacing,
+        &d.deadline,
+        &d.phases,
+        &d.counts,
+        &d.since,
+        &d.unfinished,
+        &d.left,
+        &d.phase,
+        &d.piece,
+    );
+    table & changing & runs
 }

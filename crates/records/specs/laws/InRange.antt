@@ -1,215 +1,210 @@
--- The test of a record's range and the test that the code makes are one: each passes exactly when the fields are in range.
+-- The test of a record's range decides it.
 -- Assumes nothing.
-use mathlib.Core.Path.{_≡_, refl, sym, ap, ap₂, _∙_, subst}
-use mathlib.Core.Bool.{true, true≢false}
-use Prim.Native.Nat.{ℕ, zero, suc, _+_, _-_, _*_, _/_, _%_, _≤_, _<_}
+use mathlib.Core.Path.{_≡_, refl, sym, ap, _∙_}
+use mathlib.Core.Bool.{Bool, true, false, cond, _&&_, true≢false}
+use Prim.Native.Nat.{ℕ, zero, suc, _-_, _/_, _%_, _≤_, _<_}
 use native.Mathlib.Decide.{decLt}
 use native.Mathlib.Omega.{arith}
-use lib.Dec.{ltb, eqb}
+use lib.Dec.{leb, eqb}
 use lib.ListN.{getD}
-use borrow.Author.Tests.{ltb-true, ltb-false}
-use Rattle.records.specs.Ranges.{inRange}
-use Rattle.records.specs.Record.{countsIn, stateIn, tasksIn}
+use Rattle.finite.specs.Finite.{Below, allTo}
+use Rattle.finite.specs.laws.Decided.{both, by-test, every, restated, three, within-decides}
+use Rattle.finite.specs.laws.Tests.{Decides, by-cases, eqb-decides, leb-decides, ltb-decides}
+use Rattle.model.specs.Phase.{Choice, phasesOf}
+use Rattle.model.specs.Ranges.{InTable, within}
+use Rattle.model.specs.Tasks.{Tasks}
+use Rattle.model.specs.laws.Arrays.{phase-none}
+use Rattle.model.specs.laws.Ranges.{beyond, few-of, phase-past, places-decide, table-decides, under}
+use Rattle.promise.specs.Rules.{State, stated}
+use Rattle.promise.specs.laws.Range.{Range, Zeros}
+use Rattle.promise.specs.laws.Remaining.{Proper, RunsAt}
+use Rattle.records.specs.Ranges.{CountsIn, changingTest, countTest, inRange, runTest}
+use Rattle.records.specs.Record.{arraysIn, countsIn, stateIn, tasksIn}
 use Rattle.records.specs.declared.Dispatcher.{Dispatcher}
-use Rattle.finite.specs.laws.Decided.{alike}
-use Rattle.records.specs.laws.Fields.{Fields, JobAt, JobP, Long, PhaseP, RunAt, RunP, TaskP, Within, fields}
-use Rattle.records.specs.laws.Ranging.{NowP, PlaceOkP, PlaceP, range-decides, tested, tested-decides}
-use Rattle.records.specs.laws.Views.{due-of-views, dueTicks}
-use Rattle.finite.specs.Finite.{Below}
-use Rattle.finite.specs.laws.Tests.{by-cases}
-use Rattle.model.specs.laws.Arrays.{phase-at, phase-place}
-use Rattle.promise.specs.Rules.{stated}
+use Rattle.records.specs.laws.Fields.{Fields, Long}
 
--- ---- a phase's place in the arrays of 256
+-- ---- what each test says
 
--- what holds of every place holds of every phase of every task
-phases-from : (P : ℕ → ℕ → Type 0) → Below 256 (λ p. P (p / 8) (p % 8)) → (i j : ℕ) → i < 32 → j < 8 → P i j
-phases-from P f i j l k =
-    let q : (8 * i + j) / 8 ≡ i = omega arith in
-    let r : (8 * i + j) % 8 ≡ j = omega arith in
-    let e : P ((8 * i + j) / 8) ((8 * i + j) % 8) ≡ P i j = ap₂ P q r in
-    subst (λ T. T) e (f (8 * i + j) (omega arith))
+abbrev pub Within : ℕ → ℕ → ℕ → Type 0
+Within least most v = (least ≤ v) × (v ≤ most)
 
--- the phase at a place, in the views and in the arrays
-place-alike : (d : Dispatcher) (p : ℕ) → PlaceP d p ≡ PlaceOkP d p
-place-alike d p =
-    ap (λ z. PhaseP (ltb (p % 8) (getD (d .phases) (p / 8) 0)) z (tasksIn d .q (p / 8) (p % 8)) (countsIn d (p / 8) (p % 8))) (phase-place (d .work) p) ∙
-    ap₂ (PhaseP (ltb (p % 8) (getD (d .phases) (p / 8) 0)) (getD (d .work) p 0)) (phase-place (d .cost) p) (phase-place (d .counts) p)
+-- an unfinished job, or three zeros
+abbrev pub JobP : Bool → ℕ → ℕ → ℕ → ℕ → ℕ → ℕ → Type 0
+JobP unfinished D m x left phase piece =
+    (unfinished ≡ true → (left ≤ D) × Within 1 m phase × Within 1 x piece) ×
+    (¬ (unfinished ≡ true) → (left ≡ 0) × (phase ≡ 0) × (piece ≡ 0))
 
--- ---- the job of a task, with its count read in the view or straight from the array
+-- a running piece, or none
+abbrev pub RunP : ℕ → ℕ → Bool → ℕ → ℕ → Type 0
+RunP run n unfinished ticks most =
+    (run ≡ 0 → ticks ≡ 0) × (¬ (run ≡ 0) → (run ≤ n) × (unfinished ≡ true) × Within 1 most ticks)
 
-job-alike : (d : Dispatcher) (i : ℕ) (x y : ℕ) → getD (d .phases) i 0 ≤ 8 → (getD (d .phase) i 0 - 1 < 8 → x ≡ y)
-    → JobP (stateIn d .busy i) (getD (d .deadline) i 0) (getD (d .phases) i 0) x (getD (d .left) i 0) (getD (d .phase) i 0) (getD (d .piece) i 0)
-    → JobP (stateIn d .busy i) (getD (d .deadline) i 0) (getD (d .phases) i 0) y (getD (d .left) i 0) (getD (d .phase) i 0) (getD (d .piece) i 0)
-job-alike d i x y eight e j =
-    (λ b. let t = j .0 b in (t .0, t .1, (t .2 .0, omega (arith, t .2 .1, e (omega (arith, t .1 .0, t .1 .1))))), j .1)
+pub itself : (b : Bool) → Decides b (b ≡ true)
+itself b = (λ e. e, λ e. e)
 
-run-alike : (d : Dispatcher) (m n : ℕ) → (¬ (d .running ≡ 0) → d .running ≤ d .tasks → stateIn d .busy (d .running - 1) ≡ true → m ≡ n)
-    → RunP (d .running) (d .tasks) (stateIn d .busy (d .running - 1)) (d .ticks) m
-    → RunP (d .running) (d .tasks) (stateIn d .busy (d .running - 1)) (d .ticks) n
-run-alike d m n e r =
-    (r .0, λ h. let t = r .1 h in (t .0, t .1, (t .2 .0, omega (arith, t .2 .1, e h (t .0) (t .1)))))
+pub job-decides : (b : Bool) (D m x left phase piece : ℕ)
+    → Decides (cond b (leb left D && within 1 m phase && within 1 x piece) (eqb left 0 && eqb phase 0 && eqb piece 0)) (JobP b D m x left phase piece)
+job-decides b D m x left phase piece =
+    by-test (itself b)
+    (three (leb-decides left D) (within-decides 1 m phase) (within-decides 1 x piece))
+    (three (eqb-decides left 0) (eqb-decides phase 0) (eqb-decides piece 0))
 
--- the ticks of the running piece, in the view and straight from the arrays
-due-alike : (d : Dispatcher) → d .tasks ≤ 32 → ((i : ℕ) → i < 32 → getD (d .phases) i 0 ≤ 8) → Below 32 (JobAt d) →
-    ¬ (d .running ≡ 0) → d .running ≤ d .tasks → stateIn d .busy (d .running - 1) ≡ true →
-    dueTicks d (d .running) ≡ stated (tasksIn d) (countsIn d) (d .running - 1) (getD (d .phase) (d .running - 1) 0) (getD (d .piece) (d .running - 1) 0)
-due-alike d few eight job h l b =
-    let e : d .running ≡ suc (d .running - 1) = go (d .running) h in
-    let k : d .running - 1 < 32 = omega arith in
-    let t = job (d .running - 1) k .0 b in
-    ap (dueTicks d) e ∙ due-of-views d (d .running - 1) (omega (arith, t .1 .0, t .1 .1, eight (d .running - 1) k)) (t .2 .0)
-  where
-    go : (r : ℕ) → ¬ (r ≡ 0) → r ≡ suc (r - 1)
-    go zero n = absurd (n refl)
-    go (suc r) n = omega arith
+pub run-decides : (run n : ℕ) (u : Bool) (ticks most : ℕ) → Decides (cond (eqb run 0) (eqb ticks 0) (leb run n && u && within 1 most ticks)) (RunP run n u ticks most)
+run-decides run n u ticks most =
+    by-test (eqb-decides run 0) (eqb-decides ticks 0)
+    (three (leb-decides run n) (itself u) (within-decides 1 most ticks))
 
--- ---- the fields, from either test
-module _ (d : Dispatcher) (long : Long d) where
-  few-phases : Below 32 (TaskP (tasksIn d)) → (i : ℕ) → i < 32 → getD (d .phases) i 0 ≤ 8
-  few-phases numbers i l = go (decLt i (d .tasks))
-    where
-      go : Dec (i < d .tasks) → getD (d .phases) i 0 ≤ 8
-      go (yes k) = numbers i l .0 k .2 .1
-      go (no k) = omega (arith, numbers i l .1 k .2)
+pub untrue : (b : Bool) → b ≡ false → ¬ (b ≡ true)
+untrue b e f = true≢false (sym f ∙ e)
 
-  not-busy : (i : ℕ) → getD (d .unfinished) i 0 ≡ 0 → ¬ (stateIn d .busy i ≡ true)
-  not-busy i e b = true≢false (sym b ∙ ap (λ z. eqb z 1) e)
+module _ (d : Dispatcher) where
+  abbrev S : Tasks
+  S = tasksIn d
 
-  now-since : (i : ℕ) → NowP d i → getD (d .since) i 0 ≤ getD (d .spacing) i 0
-  now-since i n = go (decLt i (d .tasks))
-    where
-      go : Dec (i < d .tasks) → getD (d .since) i 0 ≤ getD (d .spacing) i 0
-      go (yes k) = n .0 k .0
-      go (no k) = omega (arith, n .1 k .0 .0 .0 .0)
+  abbrev x : Choice
+  x = countsIn d
 
-  now-binary : (i : ℕ) → NowP d i → getD (d .unfinished) i 0 ≤ 1
-  now-binary i n = go (decLt i (d .tasks))
-    where
-      go : Dec (i < d .tasks) → getD (d .unfinished) i 0 ≤ 1
-      go (yes k) = n .0 k .1
-      go (no k) = omega (arith, n .1 k .0 .0 .0 .1)
+  abbrev s : State
+  s = stateIn d
 
-  now-job : (i : ℕ) → NowP d i → JobAt d i
-  now-job i n = go (decLt i (d .tasks))
-    where
-      go : Dec (i < d .tasks) → JobAt d i
-      go (yes k) = n .0 k .2
-      go (no k) =
-          let z = n .1 k in
-          (λ b. absurd (not-busy i (z .0 .0 .0 .1) b), λ b. (z .0 .0 .1, z .0 .1, z .1))
+  -- the job of task i
+  abbrev pub JobAt : ℕ → Type 0
+  JobAt i = JobP (s .busy i) (S .D i) (S .m i) (x i (s .phase i - 1)) (s .left i) (s .phase i) (s .piece i)
 
-  pub range-fields : inRange d ≡ true → Fields d
-  range-fields e =
-      let t = range-decides d .0 e in
-      fields d long
-      (record {
-        few = t .0 .0 .0 .0;
-        numbers = t .0 .0 .0 .1;
-        phases = phases-from (λ i j. PhaseP (ltb j (getD (d .phases) i 0)) (tasksIn d .c i j) (tasksIn d .q i j) (countsIn d i j)) (t .0 .0 .1);
-        since = λ i l. now-since i (t .0 .1 i l);
-        binary = λ i l. now-binary i (t .0 .1 i l);
-        job = λ i l. now-job i (t .0 .1 i l);
-        run = t .1;
-      })
+  abbrev pub RunAt : Type 0
+  RunAt = RunP (s .run) (S .n) (s .busy (s .run - 1)) (s .ticks) (stated S x (s .run - 1) (s .phase (s .run - 1)) (s .piece (s .run - 1)))
 
-  pub tested-fields : tested d ≡ true → Fields d
-  tested-fields e =
-      let t = tested-decides d .0 e in
-      let few : d .tasks ≤ 32 = t .0 .0 .0 .0 in
-      let numbers : Below 32 (TaskP (tasksIn d)) = λ i l. t .0 .0 .0 .1 i l .0 in
-      let eight : (i : ℕ) → i < 32 → getD (d .phases) i 0 ≤ 8 = few-phases numbers in
-      let job : Below 32 (JobAt d) = λ i l. job-alike d i _ _ (eight i l) (λ k. sym (phase-at (d .counts) i _ k)) (t .0 .0 .1 i l .1) in
-      fields d long
-      (record {
-        few = few;
-        numbers = numbers;
-        phases = phases-from (λ i j. PhaseP (ltb j (getD (d .phases) i 0)) (tasksIn d .c i j) (tasksIn d .q i j) (countsIn d i j)) (λ p l. subst (λ T. T) (sym (place-alike d p)) (t .0 .1 p l));
-        since = λ i l. t .0 .0 .0 .1 i l .1;
-        binary = λ i l. t .0 .0 .1 i l .0;
-        job = job;
-        run = run-alike d _ _ (due-alike d few eight job) (t .1);
-      })
+  -- what a tick changes of a task that exists, and of one that does not
+  abbrev pub NowP : ℕ → Type 0
+  NowP i = (s .since i ≤ S .T i) × (getD (d .unfinished) i 0 ≤ 1) × JobAt i
 
--- ---- either test, from the fields
-module _ (d : Dispatcher) (f : Fields d) where
-  abbrev few : d .tasks ≤ 32
-  few = f .table .tasks
+  abbrev pub AbsentP : ℕ → Type 0
+  AbsentP i = (((_≡_ {A = ℕ} (s .since i) 0 × (getD (d .unfinished) i 0 ≡ 0)) × (s .left i ≡ 0)) × (s .phase i ≡ 0)) × (s .piece i ≡ 0)
 
-  task-of : (i : ℕ) → TaskP (tasksIn d) i
-  task-of i = (λ l. (f .table .T-range i l, f .table .D-range i l, f .table .m-range i l), λ l. f .table .no-task i (omega arith))
+  abbrev pub ChangingP : ℕ → Type 0
+  ChangingP i = (i < S .n → NowP i) × (¬ (i < S .n) → AbsentP i)
 
-  phase-of : (i j : ℕ) → PhaseP (ltb j (getD (d .phases) i 0)) (tasksIn d .c i j) (tasksIn d .q i j) (countsIn d i j)
-  phase-of i j =
-      (λ e. there (ltb-true _ _ e) (decLt i (d .tasks)), λ n. f .table .no-phase i j (by-cases (ltb j (getD (d .phases) i 0)) (λ e. absurd (n e)) (λ e. ltb-false _ _ e)))
-    where
-      there : j < getD (d .phases) i 0 → Dec (i < d .tasks) → Within 1 10000000 (tasksIn d .c i j) × (tasksIn d .q i j ≤ 10000000) × Within 1 (tasksIn d .c i j) (countsIn d i j)
-      there k (yes l) = (f .table .c-range i j l k, f .table .q-range i j l k, f .table .x-range i j l k)
-      there k (no l) = absurd (omega (arith, f .table .no-task i (omega arith) .2))
+  pub changing-decides : (i : ℕ) → Decides (changingTest d i) (ChangingP i)
+  changing-decides i =
+      by-test (ltb-decides i (S .n))
+      (three (leb-decides (s .since i) (S .T i)) (leb-decides (getD (d .unfinished) i 0) 1) (job-decides (s .busy i) (S .D i) (S .m i) (x i (s .phase i - 1)) (s .left i) (s .phase i) (s .piece i)))
+      (both (both (both (both (eqb-decides (s .since i) 0) (eqb-decides (getD (d .unfinished) i 0) 0)) (eqb-decides (s .left i) 0)) (eqb-decides (s .phase i) 0)) (eqb-decides (s .piece i) 0))
 
-  job-of : (i : ℕ) → JobAt d i
-  job-of i =
-      (λ b. busy b (decLt i (d .tasks)), λ n. let z = f .state .idle i (by-cases (stateIn d .busy i) (λ b. absurd (n b)) (λ b. b)) in (z .left, z .phase, z .piece))
-    where
-      busy : stateIn d .busy i ≡ true → Dec (i < d .tasks)
-          → (getD (d .left) i 0 ≤ getD (d .deadline) i 0) × Within 1 (getD (d .phases) i 0) (getD (d .phase) i 0) × Within 1 (countsIn d i (getD (d .phase) i 0 - 1)) (getD (d .piece) i 0)
-      busy b (yes l) = let a = f .jobs .job i l b in (f .state .left i b, (a .phase-least, a .phase-most), (a .piece-least, a .piece-most))
-      busy b (no l) = absurd (true≢false (sym b ∙ f .state .none i (omega arith)))
+  counts-decide : Long d → InTable S → Decides (allTo 256 (λ p. countTest S x (p / 8) (p % 8))) (CountsIn S x)
+  counts-decide long t =
+      restated
+      (λ h. record { count-least = λ i j l k. h .0 i j l k .0; count-most = λ i j l k. h .0 i j l k .1; no-count = h .1 })
+      (λ c. (λ i j l k. (c .count-least i j l k, c .count-most i j l k), c .no-count))
+      (places-decide S (few-of S t) (countTest S x) (λ i j. Within 1 (phasesOf S .most i j) (x i j)) (λ i j. x i j ≡ 0)
+      (λ i j. by-test (ltb-decides j (S .m i)) (within-decides 1 (phasesOf S .most i j) (x i j)) (eqb-decides (x i j) 0))
+      (λ i j h. phase-past (d .counts) i j (long .counts) h) (λ i j h. phase-none (d .counts) i j h))
 
-  run-of : RunAt d
-  run-of = (f .state .rest, go (d .running) refl)
-    where
-      go : (r : ℕ) → d .running ≡ r → ¬ (d .running ≡ 0) → (d .running ≤ d .tasks) × (stateIn d .busy (d .running - 1) ≡ true) ×
-          Within 1 (stated (tasksIn d) (countsIn d) (d .running - 1) (getD (d .phase) (d .running - 1) 0) (getD (d .piece) (d .running - 1) 0)) (d .ticks)
-      go zero e n = absurd (n e)
-      go (suc j) e n =
-          let w = f .jobs .runs j e in
-          let k : j ≡ d .running - 1 = omega arith in (
-            omega (arith, w .task),
-            ap (stateIn d .busy) (sym k) ∙ w .unfinished,
-            (w .some, omega (arith, w .most, ap (λ z. stated (tasksIn d) (countsIn d) z (getD (d .phase) z 0) (getD (d .piece) z 0)) k)),
-          )
+  -- ---- the fields, from the tests
+  module _ (long : Long d) (t : InTable S) (now : Below 32 ChangingP) (run : RunAt) where
+    absent : (i : ℕ) → S .n ≤ i → AbsentP i
+    absent i h = go (decLt i 32)
+      where
+        go : Dec (i < 32) → AbsentP i
+        go (yes l) = now i l .1 (λ k. absurd (omega arith))
+        go (no l) =
+            let h : 32 ≤ i = omega arith in
+            ((((beyond (d .since) 32 i (long .since) h, beyond (d .unfinished) 32 i (long .unfinished) h), beyond (d .left) 32 i (long .left) h), beyond (d .phase) 32 i (long .phase) h), beyond (d .piece) 32 i (long .piece) h)
 
-  unfinished-none : (i : ℕ) → d .tasks ≤ i → getD (d .unfinished) i 0 ≡ 0
-  unfinished-none i h = go (getD (d .unfinished) i 0) refl
-    where
-      go : (v : ℕ) → getD (d .unfinished) i 0 ≡ v → getD (d .unfinished) i 0 ≡ 0
-      go zero e = e
-      go (suc zero) e = absurd (true≢false (sym (ap (λ z. eqb z 1) e) ∙ f .state .none i h))
-      go (suc (suc v)) e = absurd (omega (arith, f .binary i))
+    not-busy : (i : ℕ) → getD (d .unfinished) i 0 ≡ 0 → s .busy i ≡ false
+    not-busy i e = ap (λ z. eqb z 1) e
 
-  now-of : (i : ℕ) → NowP d i
-  now-of i = (
-    λ l. (f .state .since i, f .binary i, job-of i),
-    λ l.
-        let h : d .tasks ≤ i = omega arith in
-        let z = f .state .idle i (f .state .none i h) in
-        ((((omega (arith, f .state .since i, f .table .no-task i h .0), unfinished-none i h), z .left), z .phase), z .piece),
-  )
+    pub any : (i : ℕ) → NowP i
+    any i = go (decLt i (S .n))
+      where
+        go : Dec (i < S .n) → NowP i
+        go (yes l) = now i (omega (arith, t .tasks)) .0 l
+        go (no l) =
+            let z = absent i (omega arith) in
+            (omega (arith, z .0 .0 .0 .0), omega (arith, z .0 .0 .0 .1), (λ b. absurd (untrue (s .busy i) (not-busy i (z .0 .0 .0 .1)) b), λ b. (z .0 .0 .1, z .0 .1, z .1)))
 
-  pub fields-range : inRange d ≡ true
-  fields-range = range-decides d .1 ((((few, λ i l. task-of i), λ p l. phase-of (p / 8) (p % 8)), λ i l. now-of i), run-of)
+    state : Range S s
+    state = record {
+      since = λ i. any i .0;
+      left = λ i b. any i .2 .0 b .0;
+      idle = λ i b. let z = any i .2 .1 (untrue (s .busy i) b) in record { left = z .0; phase = z .1; piece = z .2 };
+      none = λ i h. not-busy i (absent i h .0 .0 .0 .1);
+      rest = run .0;
+    }
 
-  eight : (i : ℕ) → i < 32 → getD (d .phases) i 0 ≤ 8
-  eight i l = go (decLt i (d .tasks))
-    where
-      go : Dec (i < d .tasks) → getD (d .phases) i 0 ≤ 8
-      go (yes k) = f .table .m-range i k .1
-      go (no k) = omega (arith, f .table .no-task i (omega arith) .2)
+    runs : (j : ℕ) → s .run ≡ suc j → RunsAt S x s j
+    runs j e =
+        let r = run .1 (λ z. absurd (omega arith)) in
+        let k : s .run - 1 ≡ j = omega arith in
+        record {
+          task = omega (arith, r .0);
+          unfinished = ap (s .busy) (sym k) ∙ r .1;
+          some = r .2 .0;
+          most = omega (arith, r .2 .1, ap (λ z. stated S x z (s .phase z) (s .piece z)) k);
+        }
 
-  pub fields-tested : tested d ≡ true
-  fields-tested =
-      tested-decides d .1 (
-        (
-          (
-            (few, λ i l. (task-of i, f .state .since i)),
-            λ i l. (f .binary i, job-alike d i _ _ (eight i l) (λ k. phase-at (d .counts) i _ k) (job-of i)),
-          ),
-          λ p l. subst (λ T. T) (place-alike d p) (phase-of (p / 8) (p % 8)),
-        ),
-        run-alike d _ _ (λ n l b. sym (due-alike d few eight (λ i l. job-of i) n l b)) run-of,
-      )
+    jobs : Proper S x s
+    jobs = record {
+      job = λ i l b. let j = any i .2 .0 b in record { phase-least = j .1 .0; phase-most = j .1 .1; piece-least = j .2 .0; piece-most = j .2 .1 };
+      runs = runs;
+    }
 
--- so the two are one
-pub tested-is : (d : Dispatcher) → Long d → tested d ≡ inRange d
-tested-is d long = alike (tested d) (inRange d) (tested-fields d long, fields-tested d) (range-fields d long, fields-range d)
+    fields-from : CountsIn S x → Fields d
+    fields-from c = record { table = t; counts = c; state = state; jobs = jobs; binary = λ i. any i .1 }
+
+  -- ---- the tests, from the fields
+  module _ (f : Fields d) where
+    job-of : (i : ℕ) → JobAt i
+    job-of i =
+        (λ b. busy b (decLt i (S .n)), λ n. let z = f .state .idle i (by-cases (s .busy i) (λ b. absurd (n b)) (λ b. b)) in (z .left, z .phase, z .piece))
+      where
+        busy : s .busy i ≡ true → Dec (i < S .n) → (s .left i ≤ S .D i) × Within 1 (S .m i) (s .phase i) × Within 1 (x i (s .phase i - 1)) (s .piece i)
+        busy b (yes l) = let a = f .jobs .job i l b in (f .state .left i b, (a .phase-least, a .phase-most), (a .piece-least, a .piece-most))
+        busy b (no l) = absurd (true≢false (sym b ∙ f .state .none i (omega arith)))
+
+    run-of : RunAt
+    run-of = (f .state .rest, go (s .run) refl)
+      where
+        go : (r : ℕ) → s .run ≡ r → ¬ (s .run ≡ 0) → (s .run ≤ S .n) × (s .busy (s .run - 1) ≡ true) ×
+            Within 1 (stated S x (s .run - 1) (s .phase (s .run - 1)) (s .piece (s .run - 1))) (s .ticks)
+        go zero e n = absurd (n e)
+        go (suc j) e n =
+            let w = f .jobs .runs j e in
+            let k : j ≡ s .run - 1 = omega arith in (
+              omega (arith, w .task),
+              ap (s .busy) (sym k) ∙ w .unfinished,
+              (w .some, omega (arith, w .most, ap (λ z. stated S x z (s .phase z) (s .piece z)) k)),
+            )
+
+    unfinished-none : (i : ℕ) → S .n ≤ i → getD (d .unfinished) i 0 ≡ 0
+    unfinished-none i h = go (getD (d .unfinished) i 0) refl
+      where
+        go : (v : ℕ) → getD (d .unfinished) i 0 ≡ v → getD (d .unfinished) i 0 ≡ 0
+        go zero e = e
+        go (suc zero) e = absurd (true≢false (sym (ap (λ z. eqb z 1) e) ∙ f .state .none i h))
+        go (suc (suc v)) e = absurd (omega (arith, f .binary i))
+
+    now-of : (i : ℕ) → ChangingP i
+    now-of i = (
+      λ l. (f .state .since i, f .binary i, job-of i),
+      λ l.
+          let h : S .n ≤ i = omega arith in
+          let z = f .state .idle i (f .state .none i h) in
+          ((((omega (arith, f .state .since i, f .table .no-task i h .no-spacing), unfinished-none i h), z .left), z .phase), z .piece),
+    )
+
+  -- THE TEST DECIDES THE RANGE
+  pub range-decides : Long d → Decides (inRange d) (Fields d)
+  unfolding inRange
+  range-decides long =
+      restated
+      (λ h. fields-from long (h .0 .0 .0) (h .0 .1) (h .1) (h .0 .0 .1))
+      (λ f. (((f .table, f .counts), λ i l. now-of f i), run-of f))
+      (both (both (under _ (table-decides (arraysIn d) (long .table)) (counts-decide long))
+      (every 32 (changingTest d) ChangingP changing-decides))
+      (run-decides (s .run) (S .n) (s .busy (s .run - 1)) (s .ticks) (stated S x (s .run - 1) (s .phase (s .run - 1)) (s .piece (s .run - 1)))))
+
+pub range-fields : (d : Dispatcher) → Long d → inRange d ≡ true → Fields d
+range-fields d long = range-decides d long .0
+
+pub fields-range : (d : Dispatcher) → Long d → Fields d → inRange d ≡ true
+fields-range d long = range-decides d long .1

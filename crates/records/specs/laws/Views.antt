@@ -13,12 +13,14 @@ use Rattle.finite.specs.Finite.{listTo}
 use Rattle.arrays.specs.Rules.{pieceTicks, ticksOf}
 use Rattle.finite.specs.laws.Lists.{getD-list, length-list, list-alike, list-of}
 use Rattle.records.specs.Record.{countsIn, recordOf, stateIn, tasksIn}
-use Rattle.records.specs.Start.{InTable}
+use Rattle.records.specs.Ranges.{CountsIn}
 use Rattle.records.specs.declared.Dispatcher.{Dispatcher}
 use Rattle.records.specs.laws.Fields.{Long}
 use Rattle.model.specs.Arrays.{phaseAt}
 use Rattle.model.specs.laws.Arrays.{phase-at, phase-none, phase-place}
 use Rattle.model.specs.Phase.{Choice, pieceLength}
+use Rattle.model.specs.Ranges.{InTable, NoPhase}
+use Rattle.model.specs.laws.Ranges.{Few, few-of}
 use Rattle.model.specs.Tasks.{Tasks}
 use Rattle.promise.specs.Rules.{State, stated}
 use Rattle.promise.specs.laws.Range.{Range}
@@ -47,11 +49,11 @@ record-of-views d long binary =
     λ k.
     record {
       tasks = d .tasks;
-      spacing = list-of 32 (d .spacing) 0 (long .spacing) k;
-      deadline = list-of 32 (d .deadline) 0 (long .deadline) k;
-      phases = list-of 32 (d .phases) 0 (long .phases) k;
-      work = phases-of (d .work) (long .work) k;
-      cost = phases-of (d .cost) (long .cost) k;
+      spacing = list-of 32 (d .spacing) 0 (long .table .spacing) k;
+      deadline = list-of 32 (d .deadline) 0 (long .table .deadline) k;
+      phases = list-of 32 (d .phases) 0 (long .table .phases) k;
+      work = phases-of (d .work) (long .table .work) k;
+      cost = phases-of (d .cost) (long .table .cost) k;
       counts = phases-of (d .counts) (long .counts) k;
       since = list-of 32 (d .since) 0 (long .since) k;
       unfinished = flags-of (d .unfinished) (long .unfinished) binary k;
@@ -103,51 +105,53 @@ flags-binary f i = go (decLt i 32)
     go (yes l) = omega (arith, getD-list 32 (λ i. digit (f i)) i 0 l, small (f i))
     go (no l) = omega (arith, List·getD-eq-default (listTo 32 (λ i. digit (f i))) 0 {n = i} (omega (arith, length-list 32 (λ i. digit (f i)))))
 
-module _ (S : Tasks) (x : Choice) (table : InTable S x) where
-  -- beyond the tasks and the phases all is 0
-  few-phases : (i : ℕ) → S .m i ≤ 8
-  few-phases i = go (decLt i (S .n))
-    where
-      go : Dec (i < S .n) → S .m i ≤ 8
-      go (yes l) = table .m-range i l .1
-      go (no l) = omega (arith, table .no-task i (omega arith) .2)
+-- beyond the arrays there is no task and no phase
+module _ (S : Tasks) (table : InTable S) where
+  few : Few S
+  few = few-of S table
 
-  past : (i j : ℕ) → 32 ≤ i → (S .c i j ≡ 0) × (S .q i j ≡ 0) × (x i j ≡ 0)
-  past i j h = table .no-phase i j (omega (arith, table .tasks, table .no-task i (omega (arith, table .tasks)) .2))
+  past : (i j : ℕ) → 32 ≤ i → S .m i ≤ j
+  past i j h = omega (arith, few .tasks, few .none i (omega (arith, few .tasks)))
 
-  over : (i j : ℕ) → 8 ≤ j → (S .c i j ≡ 0) × (S .q i j ≡ 0) × (x i j ≡ 0)
-  over i j h = table .no-phase i j (omega (arith, few-phases i))
+  over : (i j : ℕ) → 8 ≤ j → S .m i ≤ j
+  over i j h = omega (arith, few .phases i)
 
+  -- what is 0 where there is no phase is read as it was written
+  at-used : (f : ℕ → ℕ → ℕ) → ((i j : ℕ) → S .m i ≤ j → f i j ≡ 0) → (i j : ℕ) → phaseAt (listTo 256 (λ p. f (p / 8) (p % 8))) i j ≡ f i j
+  at-used f none i j = at-phase f i j (λ h. none i j (past i j h)) (λ h. none i j (over i j h))
+
+  -- and what is 0 where there is no task
+  at-task : (f : ℕ → ℕ) → ((i : ℕ) → S .n ≤ i → f i ≡ 0) → (i : ℕ) → getD (listTo 32 f) i 0 ≡ f i
+  at-task f none i = at-place 32 f i (λ h. none i (omega (arith, few .tasks)))
+
+module _ (S : Tasks) (x : Choice) (table : InTable S) (counts : CountsIn S x) where
   pub tasks-of-record : (s : State) → tasksIn (recordOf S x s) ≡ S
   tasks-of-record s =
       λ k.
       record {
         n = S .n;
-        T = λ i. at-place 32 (S .T) i (λ h. table .no-task i (omega (arith, table .tasks)) .0) k;
-        D = λ i. at-place 32 (S .D) i (λ h. table .no-task i (omega (arith, table .tasks)) .1) k;
-        m = λ i. at-place 32 (S .m) i (λ h. table .no-task i (omega (arith, table .tasks)) .2) k;
-        c = λ i j. at-phase (S .c) i j (λ h. past i j h .0) (λ h. over i j h .0) k;
-        q = λ i j. at-phase (S .q) i j (λ h. past i j h .1) (λ h. over i j h .1) k;
+        T = λ i. at-task S table (S .T) (λ i l. table .no-task i l .no-spacing) i k;
+        D = λ i. at-task S table (S .D) (λ i l. table .no-task i l .no-deadline) i k;
+        m = λ i. at-task S table (S .m) (λ i l. table .no-task i l .no-phases) i k;
+        c = λ i j. at-used S table (S .c) (λ i j l. table .no-phase i j l .no-work) i j k;
+        q = λ i j. at-used S table (S .q) (λ i j l. table .no-phase i j l .no-cost) i j k;
       }
 
   pub counts-of-record : (s : State) → countsIn (recordOf S x s) ≡ x
-  counts-of-record s = λ k i j. at-phase x i j (λ h. past i j h .2) (λ h. over i j h .2) k
+  counts-of-record s = λ k i j. at-used S table x (counts .no-count) i j k
 
   pub state-of-record : (s : State) → Range S s → stateIn (recordOf S x s) ≡ s
   state-of-record s ok =
       λ k.
       record {
-        busy = λ i. flag-at (s .busy) i (λ h. none i h) k;
-        since = λ i. at-place 32 (s .since) i (λ h. omega (arith, ok .since i, table .no-task i (omega (arith, table .tasks)) .0)) k;
-        left = λ i. at-place 32 (s .left) i (λ h. ok .idle i (none i h) .left) k;
-        phase = λ i. at-place 32 (s .phase) i (λ h. ok .idle i (none i h) .phase) k;
-        piece = λ i. at-place 32 (s .piece) i (λ h. ok .idle i (none i h) .piece) k;
+        busy = λ i. flag-at (s .busy) i (λ h. ok .none i (omega (arith, table .tasks))) k;
+        since = λ i. at-task S table (s .since) (λ i l. omega (arith, ok .since i, table .no-task i l .no-spacing)) i k;
+        left = λ i. at-task S table (s .left) (λ i l. ok .idle i (ok .none i l) .left) i k;
+        phase = λ i. at-task S table (s .phase) (λ i l. ok .idle i (ok .none i l) .phase) i k;
+        piece = λ i. at-task S table (s .piece) (λ i l. ok .idle i (ok .none i l) .piece) i k;
         run = s .run;
         ticks = s .ticks;
       }
-    where
-      none : (i : ℕ) → 32 ≤ i → s .busy i ≡ false
-      none i h = ok .none i (omega (arith, table .tasks))
 
 -- ---- the ticks of a piece
 

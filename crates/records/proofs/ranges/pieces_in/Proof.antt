@@ -1,0 +1,44 @@
+-- `pieces_in` meets its contract. Assumes nothing.
+use mathlib.Core.Path.{_≡_, _∙_}
+use Prim.Native.Nat.{_-_, _≤_}
+use native.Mathlib.Omega.{arith}
+use Rattle.finite.specs.Finite.{allTo}
+use Rattle.finite.specs.laws.Lists.{all-none, all-more}
+use Rattle.records.specs.Lent.{pieceAt}
+use borrow.Author.Needs.{needs}
+use Rattle.records.proofs.ranges.pieces_in.Statement.{statement}
+use Rattle.records.proofs.ranges.pieces_in.Tie as tie
+
+abbrev Inv-loop : tie.InvT-loop
+Inv-loop counts phase piece ok₀ i₀ ok i = (i ≤ 32) × (ok ≡ allTo i (pieceAt counts phase piece))
+
+abbrev μ-loop : tie.MeasureT-loop
+μ-loop counts phase piece ok₀ i₀ ok i = 32 - i
+
+loop-holds : tie.Need-loop-holds Inv-loop μ-loop
+loop-holds c = (search needs, all-none _)
+
+piece-at-requires : tie.Need-piece-at-requires Inv-loop μ-loop
+piece-at-requires c κs = search needs
+
+add-i : tie.Need-add-i Inv-loop μ-loop
+add-i c = search needs
+
+loop-less : tie.Need-loop-less Inv-loop μ-loop
+loop-less c = search needs
+
+loop-again : tie.Need-loop-again Inv-loop μ-loop
+loop-again c =
+    let l = c .before .before .loop in
+    (search needs, all-more _ _ _ _ (l .inv .1) (rw (c .piece-at .ensures)))
+
+returns : tie.Need-returns Inv-loop μ-loop
+returns c =
+    let l = c .before .loop in
+    let e : l .i ≡ 32 = omega arith in
+    l .inv .1 ∙ rw e
+
+pub pieces-in-spec : {M : Type 1} → statement M
+pieces-in-spec =
+    tie.close
+    (tie.spec Inv-loop μ-loop loop-holds piece-at-requires add-i loop-less loop-again returns)
