@@ -9,7 +9,7 @@ use lib.ListN.{getD}
 use Rattle.finite.specs.Finite.{allTo}
 use Rattle.finite.specs.If.{if_then_else_}
 use Rattle.model.specs.Phase.{Choice, phasesOf}
-use Rattle.model.specs.Ranges.{tableTest, within}
+use Rattle.model.specs.Ranges.{InTable, tableTest, within}
 use Rattle.model.specs.Tasks.{Each, Tasks}
 use Rattle.promise.specs.Rules.{State, stated}
 use Rattle.records.specs.Record.{countsIn, emptyRecord, stateIn, tasksIn}
@@ -21,7 +21,12 @@ pub record CountsIn (S : Tasks) (x : Choice) : Type 0 where
   pub count-most : Each S (λ i j. x i j ≤ phasesOf S .most i j)
   pub no-count : (i j : ℕ) → S .m i ≤ j → x i j ≡ 0
 
--- the same as a test
+-- a table with counts, each number in its range
+pub record WithCounts (S : Tasks) (x : Choice) : Type 0 where
+  pub table : InTable S
+  pub counts : CountsIn S x
+
+-- the test of a count
 abbrev pub countTest : Tasks → Choice → ℕ → ℕ → Bool
 countTest S x i j = if ltb j (S .m i) then within 1 (phasesOf S .most i j) (x i j) else eqb (x i j) 0
 

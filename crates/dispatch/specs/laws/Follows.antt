@@ -9,17 +9,17 @@ use Rattle.arrays.specs.Masks.{bit, countOf, maskOf}
 use Rattle.arrays.specs.laws.Masks.{maskOf-alike, ones-maskOf}
 use Rattle.records.specs.Ranges.{inRange, usable}
 use Rattle.records.specs.Record.{countsIn, emptyRecord, recordOf, requestOf, stateIn, tasksIn}
-use Rattle.records.specs.Start.{InTable}
+use Rattle.records.specs.Ranges.{WithCounts}
 use Rattle.dispatch.specs.Tick.{Ticks, answerFor, recordAfter, rulesAnswer}
 use Rattle.dispatch.specs.declared.Answer as code
 use Rattle.records.specs.declared.Dispatcher.{Dispatcher}
 use Rattle.dispatch.specs.laws.ArrayRules.{Steps, admits, answerWith, begun, dueAt, elapsed, picked, pieceEnds, ran}
 use Rattle.dispatch.specs.laws.ArraySteps.{admits-split}
-use Rattle.dispatch.specs.laws.Empty.{empty-in-range, empty-long, empty-steps, nothing}
+use Rattle.dispatch.specs.laws.Empty.{empty-steps, nothing}
+use Rattle.records.specs.laws.Empty.{empty-in-range, empty-long}
 use Rattle.records.specs.laws.Fields.{Fields, Long}
-use Rattle.records.specs.laws.InRange.{range-fields, tested-is}
+use Rattle.records.specs.laws.InRange.{range-fields}
 use Rattle.dispatch.specs.laws.Moves.{admission, admits-is, elapses, picking}
-use Rattle.records.specs.laws.Ranging.{tested}
 use Rattle.dispatch.specs.laws.Running.{answering, running}
 use Rattle.records.specs.laws.Views.{record-of-views}
 use Rattle.finite.specs.Finite.{Below}
@@ -35,11 +35,11 @@ use Rattle.promise.specs.laws.Remaining.{Proper, Ranged}
 use Rattle.promise.specs.laws.Starting.{picks}
 
 -- what promise's theory asks of a table's phases
-pub table-ranged : (S : Tasks) (x : Choice) → InTable S x → Below (S .n) (Ranged S x)
+pub table-ranged : (S : Tasks) (x : Choice) → WithCounts S x → Below (S .n) (Ranged S x)
 table-ranged S x table =
-    ranged-of S x (λ i l. table .m-range i l .0) (λ i j l k. table .x-range i j l k .0) (λ i j l k. table .x-range i j l k .1)
+    ranged-of S x (λ i l. table .table .task i l .phases-least) (λ i j l k. table .counts .count-least i j l k) (λ i j l k. table .counts .count-most i j l k)
 
-module _ (S : Tasks) (x : Choice) (table : InTable S x) (s : State) (range : Range S s) (proper : Proper S x s) (mask : ℕ) (flag : Bool) where
+module _ (S : Tasks) (x : Choice) (table : WithCounts S x) (s : State) (range : Range S s) (proper : Proper S x s) (mask : ℕ) (flag : Bool) where
   abbrev d : Dispatcher
   d = recordOf S x s
 
@@ -118,16 +118,15 @@ ticks-as d e u long f mask flag l next r h =
     }
 
 -- a record that the code's test passes is stepped as it is, any other gives what the empty record does
-pub ticks-in : (d : Dispatcher) → Long d → tested d ≡ true → (mask : ℕ) (flag : Bool) → mask < 2 ^ 32 → (next : Dispatcher) (r : code.Answer) → Steps d mask flag next r → Ticks d mask flag next r
+pub ticks-in : (d : Dispatcher) → Long d → inRange d ≡ true → (mask : ℕ) (flag : Bool) → mask < 2 ^ 32 → (next : Dispatcher) (r : code.Answer) → Steps d mask flag next r → Ticks d mask flag next r
 ticks-in d long e mask flag l next r h =
-    let in-range : inRange d ≡ true = sym (tested-is d long) ∙ e in
-    ticks-as d d (cond-true (inRange d) d emptyRecord in-range) long (range-fields d long in-range) mask flag l next r h
+    ticks-as d d (cond-true (inRange d) d emptyRecord e) long (range-fields d long e) mask flag l next r h
 
 pub ticks-out :
-    (d : Dispatcher) → Long d → tested d ≡ false → (mask : ℕ) (flag : Bool) → mask < 2 ^ 32 → (next : Dispatcher) (r : code.Answer) →
+    (d : Dispatcher) → Long d → inRange d ≡ false → (mask : ℕ) (flag : Bool) → mask < 2 ^ 32 → (next : Dispatcher) (r : code.Answer) →
     next ≡ emptyRecord → r ≡ nothing mask → Ticks d mask flag next r
 ticks-out d long t mask flag l next r e f =
-    ticks-as d emptyRecord (cond-false (inRange d) d emptyRecord (sym (tested-is d long) ∙ t)) empty-long
+    ticks-as d emptyRecord (cond-false (inRange d) d emptyRecord t) empty-long
     (range-fields emptyRecord empty-long empty-in-range) mask flag l next r
     (subst₂ (Steps emptyRecord mask flag) (sym e) (sym f) (empty-steps mask flag))
 

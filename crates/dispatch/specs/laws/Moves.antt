@@ -13,7 +13,7 @@ use Rattle.finite.specs.Finite.{listTo}
 use Rattle.arrays.specs.Rules.{goesBefore, urgentOf}
 use Rattle.finite.specs.laws.Lists.{getD-list, list-alike}
 use Rattle.records.specs.Record.{countsIn, recordOf, tasksIn}
-use Rattle.records.specs.Start.{InTable}
+use Rattle.records.specs.Ranges.{WithCounts}
 use Rattle.records.specs.declared.Dispatcher.{Dispatcher}
 use Rattle.dispatch.specs.laws.ArrayRules.{admits, admittedTo, elapsed, mostUrgent, picked, startedWith, withJobs, withRun}
 use Rattle.records.specs.laws.Views.{dueTicks}
@@ -39,7 +39,7 @@ flag-of f i l = ap (λ z. eqb z 1) (getD-list 32 (λ i. digit (f i)) i 0 l) ∙ 
     read true = refl
     read false = refl
 
-module _ (S : Tasks) (x : Choice) (table : InTable S x) (s : State) where
+module _ (S : Tasks) (x : Choice) (table : WithCounts S x) (s : State) where
   -- ---- 1. admission
   pub admits-is : (mask i : ℕ) → i < 32 → admits (recordOf S x s) mask i ≡ letsIn S s (bit mask) i
   unfolding letsIn
@@ -131,10 +131,10 @@ module _ (S : Tasks) (x : Choice) (table : InTable S x) (s : State) where
   -- the ticks of the piece due
   pub due-is : (j : ℕ) → j < S .n → At S x j (s .phase j) (s .piece j) → dueTicks (recordOf S x s) (suc j) ≡ stated S x j (s .phase j) (s .piece j)
   due-is j l at =
-      let k : j < 32 = omega (arith, table .tasks) in
+      let k : j < 32 = omega (arith, table .table .tasks) in
       let phase : getD (listTo 32 (s .phase)) j 0 ≡ s .phase j = getD-list 32 (s .phase) j 0 k in
       let piece : getD (listTo 32 (s .piece)) j 0 ≡ s .piece j = getD-list 32 (s .piece) j 0 k in
-      due-of-views (recordOf S x s) j (omega (arith, at .phase-least, at .phase-most, table .m-range j l .1)) (omega (arith, at .piece-least)) ∙
+      due-of-views (recordOf S x s) j (omega (arith, at .phase-least, at .phase-most, table .table .task j l .phases-most)) (omega (arith, at .piece-least)) ∙
       ap₂ (stated (tasksIn (recordOf S x s)) (countsIn (recordOf S x s)) j) phase piece ∙
       ap₂ (λ S x. stated S x j (s .phase j) (s .piece j)) (tasks-of-record S x table s) (counts-of-record S x table s)
 
@@ -150,7 +150,7 @@ module _ (S : Tasks) (x : Choice) (table : InTable S x) (s : State) where
     picking = go (s .run) refl
       where
         urgent : mostUrgent (recordOf S x s) 32 ≡ best s (S .n)
-        urgent = urgent-is 32 (omega arith) ∙ best-more (S .n) 32 (range .none) (table .tasks)
+        urgent = urgent-is 32 (omega arith) ∙ best-more (S .n) 32 (range .none) (table .table .tasks)
 
         go : (r : ℕ) → s .run ≡ r → cond (eqb r 0) (startedWith (recordOf S x s) (mostUrgent (recordOf S x s) 32)) (recordOf S x s) ≡ recordOf S x (pickAt S x s r)
         go zero e = ap (startedWith (recordOf S x s)) urgent ∙ start-is (best s (S .n)) (best-is s (S .n))

@@ -10,16 +10,14 @@ use lib.Dec.{eqb}
 use borrow.Author.Tests.{le-ltb}
 use Rattle.arrays.specs.Masks.{bit, maskOf}
 use Rattle.arrays.specs.laws.Masks.{bit-maskOf, maskOf-lt}
-use Rattle.records.specs.Ranges.{inRange, usable}
-use Rattle.records.specs.Record.{countsIn, emptyRecord, recordOf, requestOf, stateIn, tasksIn}
-use Rattle.records.specs.Start.{InTable, Ready, readyRecord}
+use Rattle.records.specs.Ranges.{WithCounts, usable}
+use Rattle.records.specs.Record.{recordOf, requestOf}
+use Rattle.records.specs.Start.{Ready, readyRecord}
 use Rattle.dispatch.specs.Tick.{Ticks, answerFor, answerIn, recordAfter, rulesAnswer}
 use Rattle.dispatch.specs.declared.Answer as code
 use Rattle.records.specs.declared.Dispatcher.{Dispatcher}
 use Rattle.dispatch.specs.laws.Follows.{table-ranged}
-use Rattle.records.specs.laws.InRange.{fields-range}
-use Rattle.records.specs.laws.Views.{counts-of-record, flags-binary, state-of-record, tasks-of-record}
-use Rattle.finite.specs.laws.Tests.{cond-true}
+use Rattle.records.specs.laws.Recorded.{read-as, usable-is}
 use Rattle.model.specs.Phase.{Choice}
 use Rattle.model.specs.Tasks.{Sane, Tasks}
 use Rattle.promise.specs.History.{answerAt, recordAt}
@@ -32,37 +30,15 @@ use Rattle.promise.specs.laws.Remaining.{Proper}
 use Rattle.promise.specs.laws.Ticking.{proper}
 
 -- ---- a table's record in a state that the rules keep
-module _ (S : Tasks) (x : Choice) (table : InTable S x) (s : State) (range : Range S s) (good : Proper S x s) where
+module _ (S : Tasks) (x : Choice) (table : WithCounts S x) (s : State) (range : Range S s) (good : Proper S x s) where
   abbrev e : Dispatcher
   e = recordOf S x s
 
-  -- what holds of the table, counts and state holds of those that the record is read as
-  of-views : (P : Tasks → Choice → State → Type 0) → P S x s → P (tasksIn e) (countsIn e) (stateIn e)
-  of-views P p =
-      subst₂ (λ S x. P S x (stateIn e)) (sym (tasks-of-record S x table s)) (sym (counts-of-record S x table s))
-      (subst (P S x) (sym (state-of-record S x table s range)) p)
-
-  pub record-in-range : inRange e ≡ true
-  record-in-range =
-      fields-range e (record {
-        table = of-views (λ S x s. InTable S x) table;
-        state = of-views (λ S x s. Range S s) range;
-        jobs = of-views Proper good;
-        binary = flags-binary (s .busy);
-      })
-
-  usable-is : usable e ≡ e
-  usable-is = cond-true (inRange e) e emptyRecord record-in-range
-
-  read-as : {A : Type 0} (f : Tasks → Choice → State → A) → f (tasksIn e) (countsIn e) (stateIn e) ≡ f S x s
-  read-as f =
-      ap₂ (λ S x. f S x (stateIn e)) (tasks-of-record S x table s) (counts-of-record S x table s) ∙ ap (f S x) (state-of-record S x table s range)
-
   pub record-after : (q : Request) → recordAfter (usable e) q ≡ recordOf S x (tick S x q s)
-  record-after q = ap (λ (z : Dispatcher). recordAfter z q) usable-is ∙ read-as (λ S x s. recordOf S x (tick S x q s))
+  record-after q = ap (λ (z : Dispatcher). recordAfter z q) (usable-is S x table s range good) ∙ read-as S x table s range (λ S x s. recordOf S x (tick S x q s))
 
   pub rules-answer : (q : Request) → rulesAnswer (usable e) q ≡ answerOf S x q s
-  rules-answer q = ap (λ (z : Dispatcher). rulesAnswer z q) usable-is ∙ read-as (λ S x s. answerOf S x q s)
+  rules-answer q = ap (λ (z : Dispatcher). rulesAnswer z q) (usable-is S x table s range good) ∙ read-as S x table s range (λ S x s. answerOf S x q s)
 
 -- ---- an answer, written and read back
 
@@ -100,8 +76,8 @@ answer-read S x s mask flag few =
 -- ---- demand 3
 module _ (S : Tasks) (x : Choice) (ready : Ready S x) (d : ℕ → Dispatcher) (mask : ℕ → ℕ) (flag : ℕ → Bool) (r : ℕ → code.Answer)
     (begins : d 0 ≡ readyRecord S x) (ticks : (t : ℕ) → Ticks (d t) (mask t) (flag t) (d (suc t)) (r t)) where
-  abbrev table : InTable S x
-  table = ready .table
+  abbrev table : WithCounts S x
+  table = record { table = ready .table; counts = ready .counts }
 
   abbrev ask : ℕ → Request
   ask t = requestOf (mask t) (flag t)
@@ -112,10 +88,10 @@ module _ (S : Tasks) (x : Choice) (ready : Ready S x) (d : ℕ → Dispatcher) (
   sane : Sane S
   sane = record {
     some-task = ready .some-task;
-    D-least = λ i l. table .D-range i l .0;
-    D-most = λ i l. table .D-range i l .1;
-    some-phase = λ i l. table .m-range i l .0;
-    some-work = λ i j l k. table .c-range i j l k .0;
+    D-least = λ i l. table .table .task i l .deadline-least;
+    D-most = λ i l. table .table .task i l .deadline-most;
+    some-phase = λ i l. table .table .task i l .phases-least;
+    some-work = λ i j l k. table .table .phase i j l k .work-least;
   }
 
   good : (t : ℕ) → Proper S x (at t)
@@ -140,9 +116,9 @@ module _ (S : Tasks) (x : Choice) (ready : Ready S x) (d : ℕ → Dispatcher) (
       ap answerIn (ticks t .answered) ∙
       ap (λ (z : Dispatcher). answerIn (answerFor (mask t) (rulesAnswer (usable z) (ask t)))) (record-is t) ∙
       ap (λ (a : Answer). answerIn (answerFor (mask t) a)) (rules-answer S x table (at t) (ranges t) (good t) (ask t)) ∙
-      answer-read S x (at t) (mask t) (flag t) (table .tasks)
+      answer-read S x (at t) (mask t) (flag t) (table .table .tasks)
 
   pub record-kept : Kept S x ask (λ t. answerIn (r t))
   record-kept =
       subst (Kept S x ask) (λ k t. sym (answer-is t) k)
-      (kept S sane x (λ i j l k. table .x-range i j l k .0) (λ i j l k. table .x-range i j l k .1) (ready .works) ask)
+      (kept S sane x (λ i j l k. table .counts .count-least i j l k) (λ i j l k. table .counts .count-most i j l k) (ready .works) ask)

@@ -14,7 +14,7 @@ use Rattle.finite.specs.Finite.{listTo}
 use Rattle.arrays.specs.declared.rules.Due.{Due}
 use Rattle.finite.specs.laws.Lists.{getD-list, length-list}
 use Rattle.records.specs.Record.{recordOf}
-use Rattle.records.specs.Start.{InTable}
+use Rattle.records.specs.Ranges.{WithCounts}
 use Rattle.dispatch.specs.declared.Answer as code
 use Rattle.dispatch.specs.laws.ArrayRules.{answerWith, dueAt, goesOn, morePhases, morePieces, phaseAfter, pieceAfter, pieceEnded, pieceEnds, ran, usedUp, withJobs, withRun}
 use Rattle.dispatch.specs.laws.Moves.{jobs-alike}
@@ -51,7 +51,7 @@ set-false : (f : ℕ → Bool) (j : ℕ) → j < 32 → set (listTo 32 (λ i. di
 set-false f j l =
     set-places (λ i. digit (f i)) (λ i. digit (put f j false i)) j 0 l (ap digit (put-same f j false)) (λ i n. ap digit (put-other f j false i n))
 
-module _ (S : Tasks) (x : Choice) (table : InTable S x) (s : State) where
+module _ (S : Tasks) (x : Choice) (table : WithCounts S x) (s : State) where
   -- what is due of the running task j
   abbrev due : ℕ → Due
   due j = record { task = suc j; phase = s .phase j; piece = s .piece j; pieces = x j (s .phase j - 1); phases = S .m j }
@@ -141,7 +141,7 @@ module _ (S : Tasks) (x : Choice) (table : InTable S x) (s : State) where
     place j e =
         let w : RunsAt S x s j = proper .runs j e in
         let at : At S x j (s .phase j) (s .piece j) = proper .job j (w .task) (w .unfinished) in
-        record { task = omega (arith, w .task, table .tasks); busy = w .unfinished; phase = omega (arith, at .phase-least, at .phase-most, table .m-range j (w .task) .1) }
+        record { task = omega (arith, w .task, table .table .tasks); busy = w .unfinished; phase = omega (arith, at .phase-least, at .phase-most, table .table .task j (w .task) .phases-most) }
 
     pub running : ran (recordOf S x s) flag ≡ recordOf S x (workAt S x flag s (s .run))
     unfolding ran outcome

@@ -44,13 +44,13 @@ empty-alone d long e z =
     sym (record-of-views d long (f .binary)) ∙
     (λ k. record {
       tasks = z k;
-      spacing = none-at-all 32 (S .T) (λ i l. f .table .no-task i (none i) .no-spacing) k;
-      deadline = none-at-all 32 (S .D) (λ i l. f .table .no-task i (none i) .no-deadline) k;
-      phases = none-at-all 32 (S .m) (λ i l. f .table .no-task i (none i) .no-phases) k;
-      work = none-at-all 256 (λ p. S .c (p / 8) (p % 8)) (λ p l. f .table .no-phase (p / 8) (p % 8) (unused (p / 8) (p % 8)) .no-work) k;
-      cost = none-at-all 256 (λ p. S .q (p / 8) (p % 8)) (λ p l. f .table .no-phase (p / 8) (p % 8) (unused (p / 8) (p % 8)) .no-cost) k;
-      counts = none-at-all 256 (λ p. x (p / 8) (p % 8)) (λ p l. f .counts .no-count (p / 8) (p % 8) (unused (p / 8) (p % 8))) k;
-      since = none-at-all 32 (s .since) (λ i l. omega (arith, f .state .since i, f .table .no-task i (none i) .no-spacing)) k;
+      spacing = none-at-all 32 (S .T) (λ i l. f .table .table .no-task i (none i) .no-spacing) k;
+      deadline = none-at-all 32 (S .D) (λ i l. f .table .table .no-task i (none i) .no-deadline) k;
+      phases = none-at-all 32 (S .m) (λ i l. f .table .table .no-task i (none i) .no-phases) k;
+      work = none-at-all 256 (λ p. S .c (p / 8) (p % 8)) (λ p l. f .table .table .no-phase (p / 8) (p % 8) (unused (p / 8) (p % 8)) .no-work) k;
+      cost = none-at-all 256 (λ p. S .q (p / 8) (p % 8)) (λ p l. f .table .table .no-phase (p / 8) (p % 8) (unused (p / 8) (p % 8)) .no-cost) k;
+      counts = none-at-all 256 (λ p. x (p / 8) (p % 8)) (λ p l. f .table .counts .no-count (p / 8) (p % 8) (unused (p / 8) (p % 8))) k;
+      since = none-at-all 32 (s .since) (λ i l. omega (arith, f .state .since i, f .table .table .no-task i (none i) .no-spacing)) k;
       unfinished = none-at-all 32 (λ i. digit (s .busy i)) (λ i l. ap digit (idle i)) k;
       left = none-at-all 32 (s .left) (λ i l. f .state .idle i (idle i) .left) k;
       phase = none-at-all 32 (s .phase) (λ i l. f .state .idle i (idle i) .phase) k;
@@ -75,7 +75,7 @@ empty-alone d long e z =
     none i = omega arith
 
     unused : (i j : ℕ) → S .m i ≤ j
-    unused i j = omega (arith, f .table .no-task i (none i) .no-phases)
+    unused i j = omega (arith, f .table .table .no-task i (none i) .no-phases)
 
     idle : (i : ℕ) → s .busy i ≡ false
     idle i = f .state .none i (none i)

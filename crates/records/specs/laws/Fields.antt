@@ -4,10 +4,9 @@ use mathlib.Core.Path.{_≡_}
 use Prim.Native.Nat.{ℕ, _≤_}
 use lib.ListN.{length, getD}
 use Rattle.model.specs.Arrays.{Sized}
-use Rattle.model.specs.Ranges.{InTable}
 use Rattle.promise.specs.laws.Range.{Range}
 use Rattle.promise.specs.laws.Remaining.{Proper}
-use Rattle.records.specs.Ranges.{CountsIn}
+use Rattle.records.specs.Ranges.{WithCounts}
 use Rattle.records.specs.Record.{arraysIn, countsIn, stateIn, tasksIn}
 use Rattle.records.specs.declared.Dispatcher.{Dispatcher}
 
@@ -23,8 +22,7 @@ pub record Long (d : Dispatcher) : Type 0 where
 
 -- THE RANGE OF A RECORD, as the rules and the argument ask it; laws/InRange proves that the test `inRange` decides it
 pub record Fields (d : Dispatcher) : Type 0 where
-  pub table : InTable (tasksIn d)
-  pub counts : CountsIn (tasksIn d) (countsIn d)
+  pub table : WithCounts (tasksIn d) (countsIn d)
   pub state : Range (tasksIn d) (stateIn d)
   pub jobs : Proper (tasksIn d) (countsIn d) (stateIn d)
   pub binary : (i : ℕ) → getD (d .unfinished) i 0 ≤ 1

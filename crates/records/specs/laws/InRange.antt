@@ -149,7 +149,7 @@ module _ (d : Dispatcher) where
     }
 
     fields-from : CountsIn S x → Fields d
-    fields-from c = record { table = t; counts = c; state = state; jobs = jobs; binary = λ i. any i .1 }
+    fields-from c = record { table = record { table = t; counts = c }; state = state; jobs = jobs; binary = λ i. any i .1 }
 
   -- ---- the tests, from the fields
   module _ (f : Fields d) where
@@ -189,7 +189,7 @@ module _ (d : Dispatcher) where
       λ l.
           let h : S .n ≤ i = omega arith in
           let z = f .state .idle i (f .state .none i h) in
-          ((((omega (arith, f .state .since i, f .table .no-task i h .no-spacing), unfinished-none i h), z .left), z .phase), z .piece),
+          ((((omega (arith, f .state .since i, f .table .table .no-task i h .no-spacing), unfinished-none i h), z .left), z .phase), z .piece),
     )
 
   -- THE TEST DECIDES THE RANGE
@@ -198,7 +198,7 @@ module _ (d : Dispatcher) where
   range-decides long =
       restated
       (λ h. fields-from long (h .0 .0 .0) (h .0 .1) (h .1) (h .0 .0 .1))
-      (λ f. (((f .table, f .counts), λ i l. now-of f i), run-of f))
+      (λ f. (((f .table .table, f .table .counts), λ i l. now-of f i), run-of f))
       (both (both (under _ (table-decides (arraysIn d) (long .table)) (counts-decide long))
       (every 32 (changingTest d) ChangingP changing-decides))
       (run-decides (s .run) (S .n) (s .busy (s .run - 1)) (s .ticks) (stated S x (s .run - 1) (s .phase (s .run - 1)) (s .piece (s .run - 1)))))

@@ -7,12 +7,11 @@ use Rattle.arrays.specs.Masks.{digit}
 use Rattle.finite.specs.laws.Lists.{length-list}
 use Rattle.finite.specs.laws.Tests.{cond-true}
 use Rattle.model.specs.Phase.{Choice}
-use Rattle.model.specs.Ranges.{InTable}
 use Rattle.model.specs.Tasks.{Tasks}
 use Rattle.promise.specs.Rules.{State}
 use Rattle.promise.specs.laws.Range.{Range}
 use Rattle.promise.specs.laws.Remaining.{Proper}
-use Rattle.records.specs.Ranges.{CountsIn, inRange, usable}
+use Rattle.records.specs.Ranges.{WithCounts, inRange, usable}
 use Rattle.records.specs.Record.{countsIn, emptyRecord, recordOf, stateIn, tasksIn}
 use Rattle.records.specs.declared.Dispatcher.{Dispatcher}
 use Rattle.records.specs.laws.Fields.{Long}
@@ -37,28 +36,27 @@ record-long S x s = record {
   piece = length-list 32 (s .piece);
 }
 
-module _ (S : Tasks) (x : Choice) (table : InTable S) (counts : CountsIn S x) (s : State) (range : Range S s) where
+module _ (S : Tasks) (x : Choice) (table : WithCounts S x) (s : State) (range : Range S s) where
   abbrev d : Dispatcher
   d = recordOf S x s
 
   -- what holds of the table, counts and state holds of those that the record is read as
   pub of-views : (P : Tasks → Choice → State → Type 0) → P S x s → P (tasksIn d) (countsIn d) (stateIn d)
   of-views P p =
-      subst₂ (λ S x. P S x (stateIn d)) (sym (tasks-of-record S x table counts s)) (sym (counts-of-record S x table counts s))
-      (subst (P S x) (sym (state-of-record S x table counts s range)) p)
+      subst₂ (λ S x. P S x (stateIn d)) (sym (tasks-of-record S x table s)) (sym (counts-of-record S x table s))
+      (subst (P S x) (sym (state-of-record S x table s range)) p)
 
   -- what is read from the record is what was written
   pub read-as : {A : Type 0} (f : Tasks → Choice → State → A) → f (tasksIn d) (countsIn d) (stateIn d) ≡ f S x s
   read-as f =
-      ap₂ (λ S x. f S x (stateIn d)) (tasks-of-record S x table counts s) (counts-of-record S x table counts s) ∙
-      ap (f S x) (state-of-record S x table counts s range)
+      ap₂ (λ S x. f S x (stateIn d)) (tasks-of-record S x table s) (counts-of-record S x table s) ∙
+      ap (f S x) (state-of-record S x table s range)
 
   pub record-in-range : Proper S x s → inRange d ≡ true
   record-in-range good =
       fields-range d (record-long S x s)
       (record {
-        table = of-views (λ S x s. InTable S) table;
-        counts = of-views (λ S x s. CountsIn S x) counts;
+        table = of-views (λ S x s. WithCounts S x) table;
         state = of-views (λ S x s. Range S s) range;
         jobs = of-views Proper good;
         binary = flags-binary (s .busy);

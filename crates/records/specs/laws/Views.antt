@@ -13,13 +13,13 @@ use Rattle.finite.specs.Finite.{listTo}
 use Rattle.arrays.specs.Rules.{pieceTicks, ticksOf}
 use Rattle.finite.specs.laws.Lists.{getD-list, length-list, list-alike, list-of}
 use Rattle.records.specs.Record.{countsIn, recordOf, stateIn, tasksIn}
-use Rattle.records.specs.Ranges.{CountsIn}
+use Rattle.records.specs.Ranges.{WithCounts}
 use Rattle.records.specs.declared.Dispatcher.{Dispatcher}
 use Rattle.records.specs.laws.Fields.{Long}
 use Rattle.model.specs.Arrays.{phaseAt}
 use Rattle.model.specs.laws.Arrays.{phase-at, phase-none, phase-place}
 use Rattle.model.specs.Phase.{Choice, pieceLength}
-use Rattle.model.specs.Ranges.{InTable, NoPhase}
+use Rattle.model.specs.Ranges.{InTable}
 use Rattle.model.specs.laws.Ranges.{Few, few-of}
 use Rattle.model.specs.Tasks.{Tasks}
 use Rattle.promise.specs.Rules.{State, stated}
@@ -124,31 +124,31 @@ module _ (S : Tasks) (table : InTable S) where
   at-task : (f : ℕ → ℕ) → ((i : ℕ) → S .n ≤ i → f i ≡ 0) → (i : ℕ) → getD (listTo 32 f) i 0 ≡ f i
   at-task f none i = at-place 32 f i (λ h. none i (omega (arith, few .tasks)))
 
-module _ (S : Tasks) (x : Choice) (table : InTable S) (counts : CountsIn S x) where
+module _ (S : Tasks) (x : Choice) (table : WithCounts S x) where
   pub tasks-of-record : (s : State) → tasksIn (recordOf S x s) ≡ S
   tasks-of-record s =
       λ k.
       record {
         n = S .n;
-        T = λ i. at-task S table (S .T) (λ i l. table .no-task i l .no-spacing) i k;
-        D = λ i. at-task S table (S .D) (λ i l. table .no-task i l .no-deadline) i k;
-        m = λ i. at-task S table (S .m) (λ i l. table .no-task i l .no-phases) i k;
-        c = λ i j. at-used S table (S .c) (λ i j l. table .no-phase i j l .no-work) i j k;
-        q = λ i j. at-used S table (S .q) (λ i j l. table .no-phase i j l .no-cost) i j k;
+        T = λ i. at-task S (table .table) (S .T) (λ i l. table .table .no-task i l .no-spacing) i k;
+        D = λ i. at-task S (table .table) (S .D) (λ i l. table .table .no-task i l .no-deadline) i k;
+        m = λ i. at-task S (table .table) (S .m) (λ i l. table .table .no-task i l .no-phases) i k;
+        c = λ i j. at-used S (table .table) (S .c) (λ i j l. table .table .no-phase i j l .no-work) i j k;
+        q = λ i j. at-used S (table .table) (S .q) (λ i j l. table .table .no-phase i j l .no-cost) i j k;
       }
 
   pub counts-of-record : (s : State) → countsIn (recordOf S x s) ≡ x
-  counts-of-record s = λ k i j. at-used S table x (counts .no-count) i j k
+  counts-of-record s = λ k i j. at-used S (table .table) x (table .counts .no-count) i j k
 
   pub state-of-record : (s : State) → Range S s → stateIn (recordOf S x s) ≡ s
   state-of-record s ok =
       λ k.
       record {
-        busy = λ i. flag-at (s .busy) i (λ h. ok .none i (omega (arith, table .tasks))) k;
-        since = λ i. at-task S table (s .since) (λ i l. omega (arith, ok .since i, table .no-task i l .no-spacing)) i k;
-        left = λ i. at-task S table (s .left) (λ i l. ok .idle i (ok .none i l) .left) i k;
-        phase = λ i. at-task S table (s .phase) (λ i l. ok .idle i (ok .none i l) .phase) i k;
-        piece = λ i. at-task S table (s .piece) (λ i l. ok .idle i (ok .none i l) .piece) i k;
+        busy = λ i. flag-at (s .busy) i (λ h. ok .none i (omega (arith, table .table .tasks))) k;
+        since = λ i. at-task S (table .table) (s .since) (λ i l. omega (arith, ok .since i, table .table .no-task i l .no-spacing)) i k;
+        left = λ i. at-task S (table .table) (s .left) (λ i l. ok .idle i (ok .none i l) .left) i k;
+        phase = λ i. at-task S (table .table) (s .phase) (λ i l. ok .idle i (ok .none i l) .phase) i k;
+        piece = λ i. at-task S (table .table) (s .piece) (λ i l. ok .idle i (ok .none i l) .piece) i k;
         run = s .run;
         ticks = s .ticks;
       }
