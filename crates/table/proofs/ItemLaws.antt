@@ -19,10 +19,12 @@ use Rattle.table.specs.declared.ParseOutcome.the-variants.{Parsed, Turne
 use Rattle.table.specs.declared.Parsing.{Parsing}
 use Rattle.table.specs.declared.Reading.{Reading}
 use Rattle.table.specs.declared.ReadOutcome.the-variants.{TurnedAway as Refused}
+use Rattle.table.specs.declared.items.Found.{Found}
+use Rattle.table.specs.declared.items.Found.the-variants.{Value as IsNumber, Away as NoNumber}
 use Rattle.table.specs.declared.items.NumberRead.{NumberRead}
 use Rattle.table.specs.declared.items.Step.{Step}
 use Rattle.table.specs.Parse.{Result, got, away, Parser, andThen, _>>=_, _>>_, done, tested, numberIn, each, phase, task, nothingBehind, numbers, table, empty, withPhase, withTask, parsedOf, limitOf, readingOf}
-use Rattle.table.specs.Steps.{readTo, awayAt, allTasks, limitedBy, Reads, Leaves, Ranged, NumberAt, NumberFrom, PhasesFrom, EndFrom}
+use Rattle.table.specs.Steps.{readTo, foundOf, passedOn, awayAt, allTasks, limitedBy, Reads, Leaves, Ranged, NumberFrom, PhasesFrom, EndFrom}
 use Rattle.table.specs.TaskModel.{arrays, phaseArrays, tasksOf}
 use Rattle.table.specs.Valid.{InRange}
 use Rattle.table.proofs.Ranges.{limited-reading}
@@ -32,40 +34,81 @@ use Rattle.table.proofs.Valid.{numbers-in-range}
 -- ---- a number
 
 module _ {at value place least most : ℕ} where
-  pub outside : {r : NumberRead} → (ltb value least || ltb most value) ≡ true → r ≡ awayAt 4 at → Ranged at value place least most r
-  outside e is = rw is (record { is = λ bytes. go (ltb value least) (ltb most value) e; high = omega arith })
+  pub outside : {r : Found} → r ≡ NoNumber 4 at → (ltb value least || ltb most value) ≡ true → Ranged at value place least most r
+  outside n e = rw n (record { is = λ bytes. go (ltb value least) (ltb most value) e })
     where
-      go : (a b : Bool) → (a || b) ≡ true → (if a then away 4 at else if b then away 4 at else got value place) ≡ away 4 at
+      go : (a b : Bool) → (a || b) ≡ true → NoNumber 4 at ≡ foundOf (if a then away 4 at else if b then away 4 at else got value place)
       go true b e = refl
       go false true e = refl
       go false false e = absurd (true≢false (sym e))
 
-  pub inside : (ltb value least || ltb most value) ≡ false → Ranged at value place least most (record { reason = 0; place = place; value = value })
-  inside e = let (low, high) = go (ltb value least) (ltb most value) e in record { is = λ bytes. rw (low, high); high = ltb-false most value high }
+  pub inside : {r : Found} → r ≡ IsNumber value place → (ltb value least || ltb most value) ≡ false → Ranged at value place least most r
+  inside n e = rw n (record { is = λ bytes. go (ltb value least) (ltb most value) e })
     where
-      go : (a b : Bool) → (a || b) ≡ false → (a ≡ false) × (b ≡ false)
+      go : (a b : Bool) → (a || b) ≡ false → IsNumber value place ≡ foundOf (if a then away 4 at else if b then away 4 at else got value place)
       go true b e = absurd (true≢false e)
-      go false b e = (refl, e)
+      go false true e = absurd (true≢false e)
+      go false false e = refl
 
-module _ {bytes : List ℕ} {at least most : ℕ} {x : Number} (is : x ≡ numberAt bytes at) {r : NumberRead} where
-  pub number-found : {value place : ℕ} → x ≡ Value value place → Ranged at value place least most r → NumberAt bytes at least most r
+-- what is found at a place, by what the number reader answers there
+module _ (bytes : List ℕ) (at least most : ℕ) (x : Number) (is : x ≡ numberAt bytes at) where
+  pub found-by : (y : Number) (r : Found) → x ≡ y → r ≡ foundOf (tested least most y bytes at) → r ≡ foundOf (numberIn least most bytes at)
   unfolding numberIn
-  number-found e n = record { is = ap (λ (y : Number). tested least most y bytes at) (sym is ∙ e) ∙ n .is bytes; high = n .high }
+  found-by y r e n = n ∙ ap (λ (z : Number). foundOf (tested least most z bytes at)) (sym e ∙ is)
 
-  pub number-ends : x ≡ Ends → r ≡ awayAt 2 (length bytes) → NumberAt bytes at least most r
-  unfolding numberIn
-  number-ends e a = rw a (record { is = ap (λ (y : Number). tested least most y bytes at) (sym is ∙ e); high = omega arith })
+  pub found-ranged : (value place : ℕ) (r : Found) → x ≡ Value value place → Ranged at value place least most r → r ≡ foundOf (numberIn least most bytes at)
+  found-ranged value place r e n = found-by (Value value place) r e (n .is bytes)
 
-  pub number-malformed : x ≡ Malformed → r ≡ awayAt 3 at → NumberAt bytes at least most r
-  unfolding numberIn
-  number-malformed e a = rw a (record { is = ap (λ (y : Number). tested least most y bytes at) (sym is ∙ e); high = omega arith })
+-- a number that was found is at most its most, and no reason is 0
+abbrev Proper : ℕ → Result ℕ → Type 0
+Proper most (got v next) = v ≤ most
+Proper most (away reason place) = 1 ≤ reason
+
+tested-proper : (least most : ℕ) (x : Number) (bytes : List ℕ) (at : ℕ) → Proper most (tested least most x bytes at)
+tested-proper least most Ends bytes at = omega arith
+tested-proper least most Malformed bytes at = omega arith
+tested-proper least most (Value v next) bytes at = go (ltb v least) (ltb most v) refl
+  where
+    go : (a b : Bool) → ltb most v ≡ b → Proper most (if a then away 4 at else if b then away 4 at else got v next)
+    go true b e = omega arith
+    go false true e = omega arith
+    go false false e = ltb-false most v e
+
+number-proper : (least most : ℕ) (bytes : List ℕ) (at : ℕ) → Proper most (numberIn least most bytes at)
+unfolding numberIn
+number-proper least most bytes at = tested-proper least most (numberAt bytes at) bytes at
+
+-- what was found is what reading gives
+taken : (most v next : ℕ) (y : Result ℕ) → Proper most y → foundOf y ≡ IsNumber v next → (y ≡ got v next) × (v ≤ most)
+taken most v next (got a b) l e =
+    let first : a ≡ v = cc in
+    let second : b ≡ next = cc in
+    (cc, omega arith)
+taken most v next (away r p) l e = let z : _≡_ {A = ℕ} 0 1 = cc in absurd (omega arith)
+
+turned : (most reason place : ℕ) (y : Result ℕ) → Proper most y → foundOf y ≡ NoNumber reason place → (y ≡ away reason place) × (1 ≤ reason)
+turned most reason place (got a b) l e = let z : _≡_ {A = ℕ} 0 1 = cc in absurd (omega arith)
+turned most reason place (away r p) l e =
+    let first : r ≡ reason = cc in
+    (cc, omega arith)
 
 module _ {bytes : List ℕ} {reason place least most : ℕ} {r : NumberRead} where
-  pub number-due : reason ≡ 0 → NumberAt bytes place least most r → NumberFrom bytes reason place least most r
-  number-due z n = record { reads = record { is = rw (eq-eqb reason 0 z) (n .is) }; high = n .high }
-
   pub number-away : (reason ≡ 0 → ⊥) → r ≡ awayAt reason place → NumberFrom bytes reason place least most r
   number-away some is = rw is (record { reads = record { is = rw (ne-eqb reason 0 some) }; high = omega arith })
+
+-- a number is due where the reason is 0
+module _ (bytes : List ℕ) (reason place least most : ℕ) (z : reason ≡ 0) (found : Found) (is : found ≡ foundOf (numberIn least most bytes place)) where
+  pub number-found : (v next : ℕ) (r : NumberRead) → found ≡ IsNumber v next → r ≡ record { reason = 0; place = next; value = v } → NumberFrom bytes reason place least most r
+  number-found v next r e n =
+      let y = taken most v next (numberIn least most bytes place) (number-proper least most bytes place) (sym is ∙ e) in
+      rw n (record { reads = record { is = rw (eq-eqb reason 0 z) (y .0) }; high = y .1 })
+
+  pub number-passed : (why at : ℕ) (r : NumberRead) → found ≡ NoNumber why at → r ≡ passedOn found → NumberFrom bytes reason place least most r
+  number-passed why at r e n =
+      let y = turned most why at (numberIn least most bytes place) (number-proper least most bytes place) (sym is ∙ e) in
+      let some : why ≡ 0 → ⊥ = λ o. omega (arith, y .1) in
+      let is-away : r ≡ awayAt why at = n ∙ ap passedOn e in
+      rw is-away (record { reads = record { is = rw (eq-eqb reason 0 z, ne-eqb why 0 some) (y .0) }; high = omega arith })
 
 -- ---- a phase, a task
 

@@ -8,6 +8,8 @@ use Rattle.finite.specs.If.{if_then_else_}
 use Rattle.model.specs.Limits.{phasesMost, tasksMost}
 use Rattle.groups.specs.declared.Number.the-variants.{Value}
 use Rattle.table.specs.declared.Table.{Table}
+use Rattle.table.specs.declared.items.Found.{Found}
+use Rattle.table.specs.declared.items.Found.the-variants.{Value as IsNumber, Away as NoNumber}
 use Rattle.table.specs.declared.items.Step.{Step}
 use Rattle.table.specs.declared.items.NumberRead.{NumberRead}
 use Rattle.table.specs.declared.items.PhaseRead.{PhaseRead}
@@ -39,16 +41,21 @@ pub record Leaves {A : Type 0} (bytes : List ℕ) (reason place : ℕ) (p : Pars
 abbrev pub awayAt : (reason place : ℕ) → NumberRead
 awayAt reason place = record { reason = reason; place = place; value = 0 }
 
+-- what is found where a number is due, as the reader has it
+abbrev pub foundOf : Result ℕ → Found
+foundOf (got v next) = IsNumber v next
+foundOf (away reason place) = NoNumber reason place
+
 -- a number that stands at a place, with the place behind it, tested for its range
-pub record Ranged (at value place least most : ℕ) (r : NumberRead) : Type 0 where
-  pub is : (bytes : List ℕ) → tested least most (Value value place) bytes at ≡ readTo (r .reason) (r .place) (r .value)
-  pub high : r .value ≤ most
+pub record Ranged (at value place least most : ℕ) (r : Found) : Type 0 where
+  pub is : (bytes : List ℕ) → r ≡ foundOf (tested least most (Value value place) bytes at)
 
--- a number, at a place and from a step on
-pub record NumberAt (bytes : List ℕ) (at least most : ℕ) (r : NumberRead) : Type 0 where
-  pub is : numberIn least most bytes at ≡ readTo (r .reason) (r .place) (r .value)
-  pub high : r .value ≤ most
+-- what turned the table away, as a step
+abbrev pub passedOn : Found → NumberRead
+passedOn (IsNumber v place) = awayAt 0 place
+passedOn (NoNumber reason place) = awayAt reason place
 
+-- a number, from a step on
 pub record NumberFrom (bytes : List ℕ) (reason place least most : ℕ) (r : NumberRead) : Type 0 where
   pub reads : Reads bytes reason place (numberIn least most) (r .reason) (r .place) (r .value)
   pub high : r .value ≤ most

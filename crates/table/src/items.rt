@@ -5,7 +5,8 @@ use crate::Table;
 use groups::Number;
 ghost use mathlib.Core.Path.{_≡_};
 ghost use Prim.Native.Nat.{_≤_};
-ghost use Rattle.table.specs.Steps.{awayAt, Ranged, NumberAt, NumberFrom, PhaseFrom, HeadFrom, PhasesFrom, TasksFrom, EndFrom};
+ghost use Rattle.table.specs.Parse.{numberIn};
+ghost use Rattle.table.specs.Steps.{awayAt, EndFrom, foundOf, HeadFrom, NumberFrom, passedOn, Ranged, PhaseFrom, PhasesFrom, TasksFrom};
 ghost use Rattle.table.specs.TaskModel.{arrays, phaseArrays};
 
 // Where reading stands.
@@ -45,28 +46,40 @@ pub struct TasksRead {
     pub count: usize,
 }
 
+// What is found where a number is due: the number and the place behind it, or the reason and the place for turning the table away.
+enum Found {
+    Value(u64, usize),
+    Away(u8, usize),
+}
+
 // A number that stands at `at`, tested for its range: outside it, reason 4.
-fn ranged(at: usize, value: u64, place: usize, least: u64, most: u64) -> NumberRead
+fn ranged(at: usize, value: u64, place: usize, least: u64, most: u64) -> Found
     ensures { λ r. ⌜ Ranged at value place least most r ⌝ }
 {
     if (value < least) | (most < value) {
-        return away(4, at);
+        return Found::Away(4, at);
     }
-    NumberRead {
-        reason: 0,
-        place,
-        value,
-    }
+    Found::Value(value, place)
 }
 
-// The number at `at`, which must be from `least` to `most`.
-fn number_at(bytes: &[u8], at: usize, least: u64, most: u64) -> NumberRead
-    ensures { λ r. ⌜ NumberAt (now (bytes .entry)) at least most r ⌝ }
+// What is found at `at`, where a number from `least` to `most` is due.
+fn number_at(bytes: &[u8], at: usize, least: u64, most: u64) -> Found
+    ensures { λ r. ⌜ r ≡ foundOf (numberIn least most (now (bytes .entry)) at) ⌝ }
 {
     match groups::read(bytes, at) {
         Number::Value(value, place) => ranged(at, value, place, least, most),
-        Number::Ends => away(2, bytes.len()),
-        Number::Malformed => away(3, at),
+        Number::Ends => Found::Away(2, bytes.len()),
+        Number::Malformed => Found::Away(3, at),
+    }
+}
+
+// What turned the table away, passed on as a step. (A number is never passed on.)
+fn passed_on(found: Found) -> NumberRead
+    ensures { λ r. ⌜ r ≡ passedOn found ⌝ }
+{
+    match found {
+        Found::Away(reason, place) => away(reason, place),
+        Found::Value(_, place) => away(0, place),
     }
 }
 
@@ -85,10 +98,17 @@ fn away(reason: u8, place: usize) -> NumberRead
 fn number(bytes: &[u8], reason: u8, place: usize, least: u64, most: u64) -> NumberRead
     ensures { λ r. ⌜ NumberFrom (now (bytes .entry)) reason place least most r ⌝ }
 {
-    if reason == 0 {
-        number_at(bytes, place, least, most)
-    } else {
-        away(reason, place)
+    if reason != 0 {
+        return away(reason, place);
+    }
+    let found = number_at(bytes, place, least, most);
+    let Found::Value(value, next) = found else {
+        return passed_on(found);
+    };
+    NumberRead {
+        reason: 0,
+        place: next,
+        value,
     }
 }
 
