@@ -6,12 +6,8 @@ use Rattle.finite.specs.Finite.{joinTo}
 use Rattle.groups.specs.Number.{groups}
 use Rattle.groups.specs.Encode.{encodeIn, encodeAll}
 use Rattle.table.specs.declared.Table.{Table}
-use Rattle.table.specs.Parse.{Result, got, away, numberIn, each, phase, task, empty, andThen, withCount}
+use Rattle.table.specs.Parse.{Result, got, away, numberIn, each, phase, task, numbers, empty}
 use Rattle.writer.specs.Written.{taskNumbers, tableBytes}
-
--- the numbers of a table, read as document 01 has them
-abbrev numbers : List ℕ → Result Table
-numbers s = andThen (numberIn 1 32 s 0) (λ (count : ℕ). each task count 0 (withCount count empty)) s
 
 -- what is written of a table that was read
 abbrev again : Result Table → List ℕ
@@ -27,6 +23,6 @@ examples =
     ∷ (0x01 ∷ 0x80 ∷ 0xAD ∷ 0xE2 ∷ 0x04 ∷ 0xAC ∷ 0x02 ∷ 0x02 ∷ 0x80 ∷ 0x01 ∷ 0x00 ∷ 0x07 ∷ 0xE8 ∷ 0x07 ∷ [])
     ∷ []
 
-pub written-again : map (λ (s : List ℕ). again (numbers s)) examples ≡ examples
-unfolding task phase each numberIn groups empty taskNumbers joinTo encodeAll encodeIn
+pub written-again : map (λ (s : List ℕ). again (numbers s 0)) examples ≡ examples
+unfolding numbers task phase each numberIn groups empty taskNumbers joinTo encodeAll encodeIn
 written-again = refl
