@@ -9,7 +9,7 @@ ghost use Prim.Native.Nat.{_+_, _-_, _≤_, _<_};
 ghost use lib.ListN.{getD};
 ghost use Rattle.finite.specs.Finite.{Below};
 ghost use Rattle.pieces.specs.Held.{phasesIn};
-ghost use Rattle.walk.specs.Stuck.{BeforeStop, FirstStuck, FirstWhere, PointJudged, Stuck};
+ghost use Rattle.walk.specs.Stuck.{BeforeStop, FirstWhere, PointJudged, Stuck};
 ghost use Rattle.walk.specs.Take.{arraysIn};
 
 // The first phase of task i that has no room in the margin, or the number of its phases where there is none.
@@ -54,41 +54,44 @@ fn stuck_phase<'a>(
     lacking(i, margin, m, c, q)
 }
 
-// A task and one of its phases, numbered from 0.
-struct Place {
-    task: usize,
-    phase: usize,
-}
-
-// The first task that has a phase stuck at t, with its first such phase, or n where there is none.
-fn first_stuck<'a>(
-    n: usize,
-    t: u64,
-    margin: u64,
-    d: &'a [u32; 32],
-    m: &'a [u32; 32],
-    c: &'a [u32; 256],
-    q: &'a [u32; 256],
-) -> Place
-    requires { ⌜ (n ≤ 32) × Below n (λ i. getD (now m) i 0 ≤ 8) ⌝ }
-    ensures { λ r. ⌜ FirstStuck (arraysIn n [] (now (d .entry)) (now (m .entry)) (now (c .entry)) (now (q .entry))) t margin (r .task) (r .phase) ⌝ }
-{
-    let mut i: usize = 0;
-    while i < n {
-        let j = stuck_phase(i, t, margin, d, m, c, q);
-        if j < size(m[i]) {
-            return Place { task: i, phase: j };
-        }
-        i += 1;
-    }
-    Place { task: n, phase: 0 }
-}
-
 // Whether the walk stops, and the blocked task and phase, numbered from 1, or 0 and 0.
 pub struct Stop {
     pub stops: bool,
     pub task: usize,
     pub phase: usize,
+}
+
+// The first task that has a phase stuck at t, with its first such phase.
+fn first_stuck<'a>(
+    n: usize,
+    t: u64,
+    demand: u64,
+    d: &'a [u32; 32],
+    m: &'a [u32; 32],
+    c: &'a [u32; 256],
+    q: &'a [u32; 256],
+) -> Stop
+    requires { ⌜ (demand ≤ t) × (n ≤ 32) × Below n (λ i. getD (now m) i 0 ≤ 8) ⌝ }
+    ensures { λ r. ⌜ PointJudged (arraysIn n [] (now (d .entry)) (now (m .entry)) (now (c .entry)) (now (q .entry))) t demand (r .stops) (r .task) (r .phase) ⌝ }
+{
+    let margin = t - demand;
+    let mut i: usize = 0;
+    while i < n {
+        let j = stuck_phase(i, t, margin, d, m, c, q);
+        if j < size(m[i]) {
+            return Stop {
+                stops: true,
+                task: i + 1,
+                phase: j + 1,
+            };
+        }
+        i += 1;
+    }
+    Stop {
+        stops: false,
+        task: 0,
+        phase: 0,
+    }
 }
 
 // Only a margin under the least so far can leave a phase stuck.
@@ -112,25 +115,12 @@ pub fn judge_point<'a>(
             phase: 0,
         };
     }
-    let margin = t - demand;
-    if low <= margin {
+    if low <= t - demand {
         return Stop {
             stops: false,
             task: 0,
             phase: 0,
         };
     }
-    let f = first_stuck(n, t, margin, d, m, c, q);
-    if f.task < n {
-        return Stop {
-            stops: true,
-            task: f.task + 1,
-            phase: f.phase + 1,
-        };
-    }
-    Stop {
-        stops: false,
-        task: 0,
-        phase: 0,
-    }
+    first_stuck(n, t, demand, d, m, c, q)
 }

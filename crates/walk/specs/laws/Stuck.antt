@@ -84,11 +84,14 @@ module _ {a : Arrays} {t demand : ℕ} where
   pub stops-over : t < demand → PointJudged a t demand true 0 0
   stops-over l = stops-with (overloaded l)
 
-  pub stops-blocked : {i j : ℕ} → demand ≤ t → FirstStuck a t (t - demand) i j → i < a .tasks → PointJudged a t demand true (i + 1) (j + 1)
-  stops-blocked le f l = stops-with (blocked le l f)
+  -- the search finds a task in the margin M, or none
+  pub stops-blocked : {M i j : ℕ} → demand ≤ t → M ≡ t - demand → FirstStuck a t M i j → i < a .tasks → PointJudged a t demand true (i + 1) (j + 1)
+  stops-blocked {M} {i} {j} le e f l = let g : FirstStuck a t (t - demand) i j = rw e at f in stops-with (blocked le l g)
 
   pub goes-roomy : {low : ℕ} → BeforeStop a t demand low → demand ≤ t → low ≤ t - demand → PointJudged a t demand false 0 0
   goes-roomy b le l = goes-with (record { fits = le; free = b .roomy l })
 
-  pub goes-free : {i j : ℕ} → demand ≤ t → FirstStuck a t (t - demand) i j → a .tasks ≤ i → PointJudged a t demand false 0 0
-  goes-free {i} le f l = goes-with (record { fits = le; free = λ k kl s. f .task .earlier k (omega arith) s })
+  pub goes-free : {M i j : ℕ} → demand ≤ t → M ≡ t - demand → FirstStuck a t M i j → a .tasks ≤ i → PointJudged a t demand false 0 0
+  goes-free {M} {i} {j} le e f l =
+      let g : FirstStuck a t (t - demand) i j = rw e at f in
+      goes-with (record { fits = le; free = λ k kl s. g .task .earlier k (omega arith) s })
