@@ -1,5 +1,6 @@
 pub mod Record
 pub mod Ranges
+pub mod Taken
 pub mod Start
 pub mod Lent
 pub mod laws

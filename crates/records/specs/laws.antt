@@ -4,5 +4,5 @@ pub mod InRange
 pub mod Views
 pub mod Recorded
 pub mod Empty
-pub mod Lent
 pub mod Tested
+pub mod Taken

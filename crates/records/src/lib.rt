@@ -5,9 +5,8 @@ use crate::ranges::changing_in;
 use crate::ranges::running_in;
 use crate::ranges::table_in;
 ghost use mathlib.Core.Path.{_≡_};
-ghost use Rattle.records.specs.Ranges.{inRange};
 ghost use Rattle.records.specs.Record.{emptyRecord};
-ghost use Rattle.records.specs.laws.Fields.{Long};
+ghost use Rattle.records.specs.Taken.{Taken};
 
 // The record. T, D and the number of phases of each task; c, q and the count of each phase, eight places for each task; then what a tick changes:
 // the ticks since the last admitted release, whether a job is unfinished (1, else 0), its time left, its phase and piece; the running task and the
@@ -57,9 +56,10 @@ impl Dispatcher {
     }
 }
 
-// Whether every field is in its range; and the lengths of the arrays, for who calls.
-pub fn in_range(d: Dispatcher) -> bool
-    ensures { λ r. ⌜ (r ≡ inRange d) × Long d ⌝ }
+// What a record is taken as: itself where every field is in its range, else the empty record. The test stands here and not in a call of its own, which
+// would copy the record once more.
+pub fn taken(mut d: Dispatcher) -> Dispatcher
+    ensures { λ r. ⌜ Taken d r ⌝ }
 {
     let runs = running_in(
         d.running,
@@ -92,5 +92,8 @@ pub fn in_range(d: Dispatcher) -> bool
         &d.phase,
         &d.piece,
     );
-    table & changing & runs
+    if !(table & changing & runs) {
+        d = Dispatcher::empty();
+    }
+    d
 }

@@ -13,9 +13,9 @@ ghost use lib.Dec.{eqb};
 ghost use lib.ListN.{getD, length};
 ghost use Rattle.arrays.specs.Rules.{ticksOf};
 ghost use Rattle.finite.specs.Finite.{allTo};
-ghost use Rattle.model.specs.Arrays.{phaseAt};
+ghost use Rattle.model.specs.Arrays.{asTasks, phaseAt};
 ghost use Rattle.model.specs.Ranges.{taskTest};
-ghost use Rattle.records.specs.Lent.{changingAll, jobAt, numbersAs, pieceAt, placeAt, placeIn, runIn, sinceAt, tableAll};
+ghost use Rattle.records.specs.Lent.{arraysAs, changingAll, jobAt, numbersAs, phasesAs, pieceAt, placeAt, placeIn, runIn, sinceAt, tableAll};
 
 // ---- the table and the counts
 
@@ -28,7 +28,7 @@ fn task_at<'a>(
     i: usize,
 ) -> bool
     requires { ⌜ i < 32 ⌝ }
-    ensures { λ r. ⌜ r ≡ taskTest (numbersAs n (now (spacing .entry)) (now (deadline .entry)) (now (phases .entry))) i ⌝ }
+    ensures { λ r. ⌜ r ≡ taskTest (asTasks (numbersAs n (now (spacing .entry)) (now (deadline .entry)) (now (phases .entry)))) i ⌝ }
 {
     let t = spacing[i];
     let d = deadline[i];
@@ -45,7 +45,7 @@ fn tasks_in<'a>(
     deadline: &'a [u32; 32],
     phases: &'a [u32; 32],
 ) -> bool
-    ensures { λ r. ⌜ r ≡ allTo 32 (taskTest (numbersAs n (now (spacing .entry)) (now (deadline .entry)) (now (phases .entry)))) ⌝ }
+    ensures { λ r. ⌜ r ≡ allTo 32 (taskTest (asTasks (numbersAs n (now (spacing .entry)) (now (deadline .entry)) (now (phases .entry))))) ⌝ }
 {
     let mut ok = true;
     for i in 0usize..32 {
@@ -72,7 +72,7 @@ fn place_at<'a>(
     p: usize,
 ) -> bool
     requires { ⌜ p < 256 ⌝ }
-    ensures { λ r. ⌜ r ≡ placeAt (now (phases .entry)) (now (work .entry)) (now (cost .entry)) (now (counts .entry)) p ⌝ }
+    ensures { λ r. ⌜ r ≡ placeAt (phasesAs (now (phases .entry)) (now (work .entry)) (now (cost .entry))) (now (counts .entry)) p ⌝ }
 {
     place_in(
         ((p % 8) as u32) < phases[p / 8],
@@ -88,7 +88,7 @@ fn places_in<'a>(
     cost: &'a [u32; 256],
     counts: &'a [u32; 256],
 ) -> bool
-    ensures { λ r. ⌜ r ≡ allTo 256 (placeAt (now (phases .entry)) (now (work .entry)) (now (cost .entry)) (now (counts .entry))) ⌝ }
+    ensures { λ r. ⌜ r ≡ allTo 256 (placeAt (phasesAs (now (phases .entry)) (now (work .entry)) (now (cost .entry))) (now (counts .entry))) ⌝ }
 {
     let mut ok = true;
     for p in 0usize..256 {
@@ -106,7 +106,7 @@ pub fn table_in<'a>(
     cost: &'a [u32; 256],
     counts: &'a [u32; 256],
 ) -> bool
-    ensures { λ r. ⌜ r ≡ tableAll n (now (spacing .entry)) (now (deadline .entry)) (now (phases .entry)) (now (work .entry)) (now (cost .entry)) (now (counts .entry)) ⌝ }
+    ensures { λ r. ⌜ r ≡ tableAll (arraysAs n (now (spacing .entry)) (now (deadline .entry)) (now (phases .entry)) (now (work .entry)) (now (cost .entry))) (now (counts .entry)) ⌝ }
 {
     let tasks = tasks_in(n, spacing, deadline, phases);
     let places = places_in(phases, work, cost, counts);

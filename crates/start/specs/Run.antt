@@ -8,7 +8,7 @@ use Rattle.records.specs.Record.{requestOf}
 use Rattle.dispatch.specs.Tick.{Ticks, answerIn}
 use Rattle.dispatch.specs.declared.Answer.{Answer}
 use Rattle.records.specs.declared.Dispatcher.{Dispatcher}
-use Rattle.model.specs.Phase.{Choice, plain}
+use Rattle.model.specs.Phase.{Choice, phasesOf}
 use Rattle.model.specs.Works.{Least, Works}
 use Rattle.promise.specs.Promise.{Kept}
 use Rattle.start.specs.Start.{Starts}
@@ -35,5 +35,5 @@ pub record Promised (bytes : List ℕ) (mask : ℕ → ℕ) (flag : ℕ → Bool
   pub next : ℕ
   pub holds : table bytes 0 ≡ got read next
   pub counts : Choice
-  pub least : Least (tasksOf read) (plain (tasksOf read)) (Works (tasksOf read) (plain (tasksOf read))) counts
+  pub least : Least (tasksOf read) (phasesOf (tasksOf read)) (Works (tasksOf read) (phasesOf (tasksOf read))) counts
   pub kept : Kept (tasksOf read) counts (λ t. requestOf (mask t) (flag t)) (λ t. answerIn (answer t))

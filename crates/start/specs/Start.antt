@@ -9,7 +9,7 @@ use lib.Dec.{ltb}
 use Rattle.records.specs.Record.{emptyRecord}
 use Rattle.records.specs.Start.{readyRecord}
 use Rattle.finite.specs.If.{if_then_else_}
-use Rattle.model.specs.Phase.{Choice, plain}
+use Rattle.model.specs.Phase.{Choice, phasesOf}
 use Rattle.model.specs.Tasks.{Tasks}
 use Rattle.model.specs.TestPoints.{horizonOf}
 use Rattle.model.specs.Verdict.{Judged, Verdict, accepted, refused}
@@ -31,7 +31,7 @@ StartedOn S (refused w d p i j) r = (r .how ≡ Refused w d p i j) × (r .dispat
 -- what starting gives on the tasks of a table that was read: the verdict is the judge's (demand 2)
 pub record Begins (S : Tasks) (r : Started) : Type 0 where
   pub verdict : Verdict
-  pub judged : Judged S (plain S) (horizonOf S) verdict
+  pub judged : Judged S (phasesOf S) (horizonOf S) verdict
   pub started : StartedOn S verdict r
 
 -- what starting gives on bytes

@@ -1,4 +1,4 @@
 -- What is proved of the definitions beside this folder.
-pub mod Ready
+pub mod ReadyRecord
 pub mod Beginning
 pub mod Demand3

@@ -5,9 +5,9 @@ use walk::judge::Judged;
 ghost use mathlib.Core.Path.{_≡_};
 ghost use Rattle.table.specs.TaskModel.{tasksOf};
 ghost use Rattle.table.specs.Valid.{Valid};
-ghost use Rattle.walk.specs.Judge.{Judges};
+ghost use Rattle.walk.specs.Judge.{WalkJudges};
 ghost use Rattle.start.specs.Start.{Begins, Starts};
-ghost use Rattle.start.specs.laws.Ready.{readyWith};
+ghost use Rattle.start.specs.laws.ReadyRecord.{AtRest};
 
 // The dispatcher is ready; or the table is refused, with the witness, the demand there, the points examined, and the blocked task and phase; or it
 // is turned away, with the reason and the place.
@@ -25,7 +25,7 @@ pub struct Started {
 // The record at the start: nothing is unfinished, and every task may release at once.
 fn ready(t: Table, v: Judged) -> Dispatcher
     requires { ⌜ Valid t ⌝ }
-    ensures { λ r. ⌜ r ≡ readyWith t (v .counts) ⌝ }
+    ensures { λ r. ⌜ AtRest t (v .counts) r ⌝ }
 {
     let spacing = t.spacing;
     let deadline = t.deadline;
@@ -53,7 +53,7 @@ fn ready(t: Table, v: Judged) -> Dispatcher
 
 // What was judged of a table, as a start.
 fn begun(t: Table, v: Judged) -> Started
-    requires { ⌜ Valid t × Judges (tasksOf t) v ⌝ }
+    requires { ⌜ Valid t × WalkJudges (tasksOf t) v ⌝ }
     ensures { λ r. ⌜ Begins (tasksOf t) r ⌝ }
 {
     if v.accepted {
@@ -75,11 +75,11 @@ pub fn start(table: &[u8]) -> Started
     let read = table::read(table);
     let o = read.outcome;
     match o {
-        table::Outcome::TurnedAway(reason, place) => Started {
+        table::ReadOutcome::TurnedAway(reason, place) => Started {
             how: How::TurnedAway(reason, place),
             dispatcher: Dispatcher::empty(),
         },
-        table::Outcome::Read(h) => {
+        table::ReadOutcome::Read(h) => {
             let t = read.table;
             begun(t, walk::judge::judge(t, h))
         }

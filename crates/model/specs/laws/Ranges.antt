@@ -164,3 +164,27 @@ module _ (a : Arrays) (sized : Sized a) where
       (λ t. ((t .tasks, λ i l. (λ k. t .task i k, λ k. t .no-task i (omega arith))), (t .phase, t .no-phase)))
       (under _ (both (leb-decides (S .n) tasksMost) (every 32 (taskTest S) (λ i. (i < S .n → TaskIn S i) × (¬ (i < S .n) → NoTask S i)) (task-decides S)))
       (λ h. places-decide S (few h) (phaseTest S) (PhaseIn S) (NoPhase S) (phase-decides S) past over))
+
+-- two tables in range without a task are one
+pub none-alike : (S S′ : Tasks) → InTable S → InTable S′ → S .n ≡ 0 → S′ .n ≡ 0 → S ≡ S′
+none-alike S S′ t t′ e e′ = λ k.
+    record {
+      n = (e ∙ sym e′) k;
+      T = λ i. (t .no-task i (none i) .no-spacing ∙ sym (t′ .no-task i (none′ i) .no-spacing)) k;
+      D = λ i. (t .no-task i (none i) .no-deadline ∙ sym (t′ .no-task i (none′ i) .no-deadline)) k;
+      m = λ i. (t .no-task i (none i) .no-phases ∙ sym (t′ .no-task i (none′ i) .no-phases)) k;
+      c = λ i j. (t .no-phase i j (unused i j) .no-work ∙ sym (t′ .no-phase i j (unused′ i j) .no-work)) k;
+      q = λ i j. (t .no-phase i j (unused i j) .no-cost ∙ sym (t′ .no-phase i j (unused′ i j) .no-cost)) k;
+    }
+  where
+    none : (i : ℕ) → S .n ≤ i
+    none i = omega arith
+
+    none′ : (i : ℕ) → S′ .n ≤ i
+    none′ i = omega arith
+
+    unused : (i j : ℕ) → S .m i ≤ j
+    unused i j = omega (arith, t .no-task i (none i) .no-phases)
+
+    unused′ : (i j : ℕ) → S′ .m i ≤ j
+    unused′ i j = omega (arith, t′ .no-task i (none′ i) .no-phases)

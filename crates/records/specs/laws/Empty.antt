@@ -1,85 +1,81 @@
 -- The empty record is in range, and no other record in range has no tasks.
 -- Assumes nothing.
-use mathlib.Core.Path.{_≡_, refl, sym, ap, _∙_}
+use mathlib.Core.Path.{_≡_, refl, sym, _∙_, subst}
 use mathlib.Core.Bool.{true, false}
-use Prim.Native.Nat.{ℕ, zero, suc, _/_, _%_, _≤_, _<_}
+use Prim.Native.Nat.{ℕ, zero, suc, _≤_}
 use native.Mathlib.Omega.{arith}
-use Rattle.arrays.specs.Masks.{digit}
 use Rattle.finite.specs.Finite.{allTo, listTo}
-use Rattle.finite.specs.laws.Lists.{list-alike}
-use Rattle.model.specs.Phase.{Choice}
 use Rattle.model.specs.Ranges.{tableTest}
-use Rattle.model.specs.Tasks.{Tasks}
-use Rattle.promise.specs.Rules.{State}
+use Rattle.model.specs.laws.Ranges.{none-alike}
+use Rattle.promise.specs.laws.Range.{Zeros}
 use Rattle.records.specs.Ranges.{inRange}
-use Rattle.records.specs.Record.{countsIn, emptyRecord, stateIn, tasksIn}
+use Rattle.records.specs.Record.{countsIn, emptyRecord, recordOf, stateIn, tasksIn}
 use Rattle.records.specs.declared.Dispatcher.{Dispatcher}
 use Rattle.records.specs.laws.Fields.{Fields, Long}
 use Rattle.records.specs.laws.InRange.{range-fields}
+use Rattle.records.specs.laws.Recorded.{record-long}
 use Rattle.records.specs.laws.Views.{record-of-views}
 
+-- it is read as it was written, so its arrays have their lengths
+empty-views : recordOf (tasksIn emptyRecord) (countsIn emptyRecord) (stateIn emptyRecord) ≡ emptyRecord
+unfolding listTo
+empty-views = refl
+
 pub empty-long : Long emptyRecord
-empty-long = record {
-  table = record { spacing = refl; deadline = refl; phases = refl; work = refl; cost = refl };
-  counts = refl;
-  since = refl;
-  unfinished = refl;
-  left = refl;
-  phase = refl;
-  piece = refl;
-}
+empty-long = subst Long empty-views (record-long (tasksIn emptyRecord) (countsIn emptyRecord) (stateIn emptyRecord))
 
 pub empty-in-range : inRange emptyRecord ≡ true
 unfolding inRange tableTest allTo
 empty-in-range = refl
 
--- nothing at every place
-none-at-all : (n : ℕ) (f : ℕ → ℕ) → ((i : ℕ) → i < n → f i ≡ 0) → listTo n f ≡ listTo n (λ i. 0)
-none-at-all n f h = list-alike n f (λ i. 0) h
+-- a record in range without a task has 0 everywhere
+module _ (d : Dispatcher) (f : Fields d) (z : d .tasks ≡ 0) where
+  none : (i : ℕ) → tasksIn d .n ≤ i
+  none i = omega arith
+
+  no-count : (i j : ℕ) → countsIn d i j ≡ 0
+  no-count i j = f .table .counts .no-count i j (omega (arith, f .table .table .no-task i (none i) .no-phases))
+
+  idle : (i : ℕ) → stateIn d .busy i ≡ false
+  idle i = f .state .none i (none i)
+
+  no-since : (i : ℕ) → stateIn d .since i ≡ 0
+  no-since i = omega (arith, f .state .since i, f .table .table .no-task i (none i) .no-spacing)
+
+  zeros : (i : ℕ) → Zeros (stateIn d) i
+  zeros i = f .state .idle i (idle i)
+
+  still : d .running ≡ 0
+  still = go (d .running) refl
+    where
+      go : (r : ℕ) → d .running ≡ r → d .running ≡ 0
+      go zero q = q
+      go (suc j) q = absurd (omega (arith, f .jobs .runs j q .task))
 
 -- the number of tasks is 0 only in the empty record
 pub empty-alone : (d : Dispatcher) → Long d → inRange d ≡ true → d .tasks ≡ 0 → d ≡ emptyRecord
-unfolding listTo
 empty-alone d long e z =
     sym (record-of-views d long (f .binary)) ∙
-    (λ k. record {
-      tasks = z k;
-      spacing = none-at-all 32 (S .T) (λ i l. f .table .table .no-task i (none i) .no-spacing) k;
-      deadline = none-at-all 32 (S .D) (λ i l. f .table .table .no-task i (none i) .no-deadline) k;
-      phases = none-at-all 32 (S .m) (λ i l. f .table .table .no-task i (none i) .no-phases) k;
-      work = none-at-all 256 (λ p. S .c (p / 8) (p % 8)) (λ p l. f .table .table .no-phase (p / 8) (p % 8) (unused (p / 8) (p % 8)) .no-work) k;
-      cost = none-at-all 256 (λ p. S .q (p / 8) (p % 8)) (λ p l. f .table .table .no-phase (p / 8) (p % 8) (unused (p / 8) (p % 8)) .no-cost) k;
-      counts = none-at-all 256 (λ p. x (p / 8) (p % 8)) (λ p l. f .table .counts .no-count (p / 8) (p % 8) (unused (p / 8) (p % 8))) k;
-      since = none-at-all 32 (s .since) (λ i l. omega (arith, f .state .since i, f .table .table .no-task i (none i) .no-spacing)) k;
-      unfinished = none-at-all 32 (λ i. digit (s .busy i)) (λ i l. ap digit (idle i)) k;
-      left = none-at-all 32 (s .left) (λ i l. f .state .idle i (idle i) .left) k;
-      phase = none-at-all 32 (s .phase) (λ i l. f .state .idle i (idle i) .phase) k;
-      piece = none-at-all 32 (s .piece) (λ i l. f .state .idle i (idle i) .piece) k;
-      running = still (d .running) refl k;
-      ticks = f .state .rest (still (d .running) refl) k;
-    })
+    (λ k. recordOf (table k) (λ i j. (no-count d f z i j ∙ sym (no-count emptyRecord g refl i j)) k) (state k)) ∙
+    empty-views
   where
-    S : Tasks
-    S = tasksIn d
-
-    x : Choice
-    x = countsIn d
-
-    s : State
-    s = stateIn d
-
     f : Fields d
     f = range-fields d long e
 
-    none : (i : ℕ) → S .n ≤ i
-    none i = omega arith
+    g : Fields emptyRecord
+    g = range-fields emptyRecord empty-long empty-in-range
 
-    unused : (i j : ℕ) → S .m i ≤ j
-    unused i j = omega (arith, f .table .table .no-task i (none i) .no-phases)
+    table : tasksIn d ≡ tasksIn emptyRecord
+    table = none-alike (tasksIn d) (tasksIn emptyRecord) (f .table .table) (g .table .table) z refl
 
-    idle : (i : ℕ) → s .busy i ≡ false
-    idle i = f .state .none i (none i)
-
-    still : (r : ℕ) → d .running ≡ r → d .running ≡ 0
-    still zero q = q
-    still (suc j) q = absurd (omega (arith, f .jobs .runs j q .task))
+    state : stateIn d ≡ stateIn emptyRecord
+    state = λ k.
+        record {
+          busy = λ i. (idle d f z i ∙ sym (idle emptyRecord g refl i)) k;
+          since = λ i. (no-since d f z i ∙ sym (no-since emptyRecord g refl i)) k;
+          left = λ i. (zeros d f z i .left ∙ sym (zeros emptyRecord g refl i .left)) k;
+          phase = λ i. (zeros d f z i .phase ∙ sym (zeros emptyRecord g refl i .phase)) k;
+          piece = λ i. (zeros d f z i .piece ∙ sym (zeros emptyRecord g refl i .piece)) k;
+          run = still d f z k;
+          ticks = f .state .rest (still d f z) k;
+        }

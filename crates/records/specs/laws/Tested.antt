@@ -16,10 +16,9 @@ use Rattle.model.specs.Limits.{tasksMost}
 use Rattle.model.specs.Phase.{Choice}
 use Rattle.model.specs.Ranges.{InTable, phaseTest, tableTest, taskTest}
 use Rattle.model.specs.Tasks.{Tasks}
-use Rattle.model.specs.laws.Arrays.{phase-place}
 use Rattle.model.specs.laws.Ranges.{few-of, table-decides}
 use Rattle.promise.specs.Rules.{State, stated}
-use Rattle.records.specs.Lent.{changingAll, jobAt, pieceAt, placeAt, placeIn, runIn, sinceAt, tableAll}
+use Rattle.records.specs.Lent.{changingAll, jobAt, pieceAt, place-is, placeAt, runIn, sinceAt, tableAll}
 use Rattle.records.specs.Ranges.{changingTest, countTest, inRange, runTest}
 use Rattle.records.specs.Record.{arraysIn, countsIn, stateIn, tasksIn}
 use Rattle.records.specs.declared.Dispatcher.{Dispatcher}
@@ -76,15 +75,11 @@ module _ (d : Dispatcher) (long : Long d) where
   -- ---- the phases with their counts
 
   abbrev placeOk : ℕ → Bool
-  placeOk = placeAt (d .phases) (d .work) (d .cost) (d .counts)
-
-  place-is : (p : ℕ) → placeOk p ≡ (phaseTest S (p / 8) (p % 8) && countTest S x (p / 8) (p % 8))
-  place-is p =
-      λ k. placeIn (ltb (p % 8) (S .m (p / 8))) (sym (phase-place (d .work) p) k) (sym (phase-place (d .cost) p) k) (sym (phase-place (d .counts) p) k)
+  placeOk = placeAt (arraysIn d) (d .counts)
 
   places-are : allTo 256 placeOk ≡ (allTo 256 (λ p. phaseTest S (p / 8) (p % 8)) && allTo 256 (λ p. countTest S x (p / 8) (p % 8)))
   places-are =
-      all-alike 256 placeOk (λ p. phaseTest S (p / 8) (p % 8) && countTest S x (p / 8) (p % 8)) (λ p l. place-is p) ∙
+      all-alike 256 placeOk (λ p. phaseTest S (p / 8) (p % 8) && countTest S x (p / 8) (p % 8)) (λ p l. place-is (arraysIn d) (d .counts) p) ∙
       all-both 256 (λ p. phaseTest S (p / 8) (p % 8)) (λ p. countTest S x (p / 8) (p % 8))
 
   -- ---- what a tick changes
@@ -188,7 +183,7 @@ module _ (d : Dispatcher) (long : Long d) where
   runOk = runIn (d .running) (d .tasks) (eqb (getD (d .unfinished) (d .running - 1) 0) 1) (d .ticks) (ticksOf (d .phase) (d .piece) (d .work) (d .cost) (d .counts) (d .running))
 
   abbrev tableOk : Bool
-  tableOk = tableAll (d .tasks) (d .spacing) (d .deadline) (d .phases) (d .work) (d .cost) (d .counts)
+  tableOk = tableAll (arraysIn d) (d .counts)
 
   abbrev changingOk : Bool
   changingOk = changingAll (d .spacing) (d .deadline) (d .phases) (d .counts) (d .since) (d .unfinished) (d .left) (d .phase) (d .piece)

@@ -67,7 +67,7 @@ record-of-views d long binary =
 -- ---- to the record and back
 
 -- a list given place by place has at every place what it was given, where that is 0 from its end on
-at-place : (n : ℕ) (f : ℕ → ℕ) (i : ℕ) → (n ≤ i → f i ≡ 0) → getD (listTo n f) i 0 ≡ f i
+pub at-place : (n : ℕ) (f : ℕ → ℕ) (i : ℕ) → (n ≤ i → f i ≡ 0) → getD (listTo n f) i 0 ≡ f i
 at-place n f i h = go (decLt i n)
   where
     go : Dec (i < n) → getD (listTo n f) i 0 ≡ f i

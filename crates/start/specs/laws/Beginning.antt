@@ -10,43 +10,43 @@ use lib.Dec.{ltb}
 use Rattle.records.specs.Record.{emptyRecord}
 use Rattle.records.specs.Start.{readyRecord}
 use Rattle.model.specs.Arrays.{phaseAt}
-use Rattle.model.specs.Phase.{Choice, plain}
+use Rattle.model.specs.Phase.{Choice, phasesOf}
 use Rattle.model.specs.Tasks.{Each, Sane, Tasks}
 use Rattle.model.specs.TestPoints.{horizonOf}
 use Rattle.model.specs.Verdict as verdict
 use Rattle.model.specs.Verdict.{Same, Verdict, accepted, refused}
-use Rattle.model.specs.laws.Plain.{plain-laws}
+use Rattle.model.specs.laws.Plain.{laws-of}
 use Rattle.model.specs.laws.Unique.{judged-unique}
 use Rattle.start.specs.Start.{Begins, StartedOn, Starts, used}
 use Rattle.start.specs.declared.How.{How}
 use Rattle.start.specs.declared.How.the-variants.{Ready, Refused, TurnedAway}
 use Rattle.start.specs.declared.Started.{Started}
-use Rattle.start.specs.laws.Ready.{readyWith, ready-is}
+use Rattle.start.specs.laws.ReadyRecord.{AtRest, ready-is}
 use Rattle.table.proofs.Valid.{read-valid}
 use Rattle.table.specs.Parse.{Result, away, got, table}
 use Rattle.table.specs.TaskModel.{tasksOf}
 use Rattle.table.specs.Valid.{Valid}
 use Rattle.table.specs.declared.Table.{Table}
 use Rattle.walk.proofs.Limits.{table-sane}
-use Rattle.walk.specs.Judge.{Accepts, Judges, Refuses, accepts, refuses}
+use Rattle.walk.specs.Judge.{Accepts, Refuses, WalkJudges, accepts, refuses}
 use Rattle.walk.specs.declared.judge.Judged.{Judged}
 
 -- ---- the verdict
 
-pub was-accepted : (S : Tasks) (v : Judged) → Judges S v → v .accepted ≡ true → Accepts S v
+pub was-accepted : (S : Tasks) (v : Judged) → WalkJudges S v → v .accepted ≡ true → Accepts S v
 was-accepted S v (accepts a) e = a
 was-accepted S v (refuses b) e = absurd (true≢false (sym e ∙ b .accepted))
 
-pub was-refused : (S : Tasks) (v : Judged) → Judges S v → v .accepted ≡ false → Refuses S v
+pub was-refused : (S : Tasks) (v : Judged) → WalkJudges S v → v .accepted ≡ false → Refuses S v
 was-refused S v (accepts a) e = absurd (true≢false (sym (a .accepted) ∙ e))
 was-refused S v (refuses b) e = b
 
 module _ (t : Table) (valid : Valid t) (v : Judged) (r : Started) where
-  pub accepted-begins : Accepts (tasksOf t) v → r .how ≡ Ready → r .dispatcher ≡ readyWith t (v .counts) → Begins (tasksOf t) r
+  pub accepted-begins : Accepts (tasksOf t) v → r .how ≡ Ready → AtRest t (v .counts) (r .dispatcher) → Begins (tasksOf t) r
   accepted-begins a how d = record {
     verdict = accepted (phaseAt (v .counts)) (v .points);
     judged = a .verdict;
-    started = (how, d ∙ sym (ready-is t valid (v .counts) (a .wide .0) (a .no-task) (a .no-phase)));
+    started = (how, ready-is t valid (v .counts) (a .wide .0) (a .no-task) (a .no-phase) (r .dispatcher) d);
   }
 
   pub refused-begins : Refuses (tasksOf t) v → r .how ≡ Refused (v .witness) (v .demand) (v .points) (v .task) (v .phase) → r .dispatcher ≡ emptyRecord
@@ -85,7 +85,7 @@ module _ (S : Tasks) (sane : Sane S) (r s : Started) where
   begins-one : Begins S r → Begins S s → r ≡ s
   begins-one a b =
       same-start (a .verdict) (b .verdict)
-      (judged-unique S (plain S) (plain-laws S sane) (horizonOf S) (a .verdict) (b .verdict) (a .judged) (b .judged)) (a .started) (b .started)
+      (judged-unique S (phasesOf S) (laws-of S sane) (horizonOf S) (a .verdict) (b .verdict) (a .judged) (b .judged)) (a .started) (b .started)
 
 -- two starts that the same bytes allow are equal
 pub starts-one : (bytes : List ℕ) (r s : Started) → Starts bytes r → Starts bytes s → r ≡ s

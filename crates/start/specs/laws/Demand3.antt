@@ -5,20 +5,19 @@ use mathlib.Core.Bool.{Bool, true, false, cond, _&&_}
 use mathlib.Core.List.{List}
 use Prim.Native.Nat.{ℕ, _≤_, _<_}
 use native.Mathlib.Omega.{arith}
-use native.Mathlib.Decide.{decLt}
 use borrow.Author.Tests.{le-ltb, lt-ltb}
 use lib.Dec.{ltb}
-use Rattle.records.specs.Start.{InTable, Ready as MayStart}
+use Rattle.records.specs.Ranges.{CountsIn}
+use Rattle.records.specs.Start.{Ready as MayStart}
 use Rattle.dispatch.specs.declared.Answer.{Answer}
 use Rattle.dispatch.specs.laws.RecordKept.{record-kept}
-use Rattle.model.specs.Phase.{Choice, plain}
+use Rattle.model.specs.Phase.{Choice, phasesOf}
 use Rattle.model.specs.Tasks.{Sane, Tasks}
 use Rattle.model.specs.TestPoints.{horizonOf}
 use Rattle.model.specs.Verdict.{Accepted, Judged, Verdict, accepted, refused}
 use Rattle.model.specs.Works.{Least, Works}
-use Rattle.model.specs.laws.Arrays.{phase-at, phase-none}
 use Rattle.model.specs.laws.Choices.{by-works, least-same, least-within}
-use Rattle.model.specs.laws.Plain.{plain-laws}
+use Rattle.model.specs.laws.Plain.{laws-of}
 use Rattle.start.specs.Run.{Promised, Run}
 use Rattle.start.specs.Start.{StartedOn, used}
 use Rattle.table.proofs.Valid.{read-valid}
@@ -39,7 +38,7 @@ used-none S x i j h = go (ltb i (S .n)) (ltb j (S .m i)) (le-ltb j (S .m i) h)
     go true b e = rw e
     go false b e = refl
 
-module _ (t : Table) (valid : Valid t) (x : Choice) (p : ℕ) (a : Accepted (tasksOf t) (plain (tasksOf t)) (horizonOf (tasksOf t)) x p) where
+module _ (t : Table) (valid : Valid t) (x : Choice) (p : ℕ) (a : Accepted (tasksOf t) (phasesOf (tasksOf t)) (horizonOf (tasksOf t)) x p) where
   abbrev S : Tasks
   S = tasksOf t
 
@@ -47,47 +46,22 @@ module _ (t : Table) (valid : Valid t) (x : Choice) (p : ℕ) (a : Accepted (tas
   sane = table-sane valid
 
   -- the counts of the record are least too
-  pub least-used : Least S (plain S) (Works S (plain S)) (used S x)
+  pub least-used : Least S (phasesOf S) (Works S (phasesOf S)) (used S x)
   least-used =
-      least-same S (plain S) (plain-laws S sane) (Works S (plain S)) (by-works S (plain S) (plain-laws S sane)) x (used S x)
+      least-same S (phasesOf S) (laws-of S sane) (Works S (phasesOf S)) (by-works S (phasesOf S) (laws-of S sane)) x (used S x)
       (λ i j l k. sym (used-there S x i j l k)) (a .least)
 
-  most-used : (i j : ℕ) → i < S .n → j < S .m i → used S x i j ≤ S .c i j
-  most-used = least-within S (plain S) (plain-laws S sane) (Works S (plain S)) (by-works S (plain S) (plain-laws S sane)) (used S x) least-used
+  most-used : (i j : ℕ) → i < S .n → j < S .m i → used S x i j ≤ phasesOf S .most i j
+  most-used = least-within S (phasesOf S) (laws-of S sane) (Works S (phasesOf S)) (by-works S (phasesOf S) (laws-of S sane)) (used S x) least-used
 
-  few : (i j : ℕ) → i < S .n → j < S .m i → j < 8
-  few i j l k = omega (arith, valid .task i l .phases-most)
-
-  -- no task and no phase stand beyond those there are
-  none-at : (i j : ℕ) → S .m i ≤ j → (S .c i j ≡ 0) × (S .q i j ≡ 0) × (used S x i j ≡ 0)
-  none-at i j h = go (decLt j 8)
-    where
-      go : Dec (j < 8) → (S .c i j ≡ 0) × (S .q i j ≡ 0) × (used S x i j ≡ 0)
-      go (yes l) =
-          let z = valid .place i j l .unused h in
-          (phase-at (t .work) i j l ∙ z .no-work, phase-at (t .cost) i j l ∙ z .no-cost, used-none S x i j h)
-      go (no l) = (phase-none (t .work) i j (omega arith), phase-none (t .cost) i j (omega arith), used-none S x i j h)
-
-  in-table : InTable S (used S x)
-  in-table = record {
-    tasks = valid .tasks-most;
-    T-range = λ i l. (valid .task i l .spacing-least, valid .task i l .spacing-most);
-    D-range = λ i l. (valid .task i l .deadline-least, valid .task i l .deadline-most);
-    m-range = λ i l. (valid .task i l .phases-least, valid .task i l .phases-most);
-    c-range = λ i j l k.
-        let z = valid .place i j (few i j l k) .used k in
-        rw (phase-at (t .work) i j (few i j l k)) ((z .work-least, z .work-most));
-    q-range = λ i j l k. rw (phase-at (t .cost) i j (few i j l k)) (valid .place i j (few i j l k) .used k .cost-most);
-    x-range = λ i j l k. (least-used .valid i j l k, most-used i j l k);
-    no-task = λ i l. let z = valid .no-task i l in (z .no-spacing, z .no-deadline, z .no-phases);
-    no-phase = none-at;
-  }
+  counts-in : CountsIn S (used S x)
+  counts-in = record { count-least = least-used .valid; count-most = most-used; no-count = used-none S x }
 
   pub may-start : MayStart S (used S x)
-  may-start = record { some-task = valid .tasks-least; table = in-table; works = least-used .good }
+  may-start = record { some-task = valid .in-range .some-task; table = valid .in-range .items; counts = counts-in; works = least-used .good }
 
 module _ {bytes : List ℕ} {mask : ℕ → ℕ} {flag : ℕ → Bool} {answer : ℕ → Answer} (run : Run bytes mask flag answer) where
-  of-verdict : (t : Table) (next : ℕ) → table bytes 0 ≡ got t next → (v : Verdict) → Judged (tasksOf t) (plain (tasksOf t)) (horizonOf (tasksOf t)) v
+  of-verdict : (t : Table) (next : ℕ) → table bytes 0 ≡ got t next → (v : Verdict) → Judged (tasksOf t) (phasesOf (tasksOf t)) (horizonOf (tasksOf t)) v
       → StartedOn (tasksOf t) v (run .begun) → Promised bytes mask flag answer
   of-verdict t next e (accepted x p) a s =
       let valid = read-valid bytes 0 t next e in

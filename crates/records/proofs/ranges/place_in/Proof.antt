@@ -1,5 +1,5 @@
 -- `place_in` meets its contract. Assumes nothing.
-use Rattle.records.specs.laws.Lent.{place-by}
+use Rattle.records.specs.Lent.{place-by}
 use borrow.Author.Needs.{needs}
 use Rattle.records.proofs.ranges.place_in.Statement.{statement}
 use Rattle.records.proofs.ranges.place_in.Tie as tie

@@ -4,13 +4,13 @@ use Prim.Native.Nat.{_-_, _≤_}
 use native.Mathlib.Omega.{arith}
 use Rattle.finite.specs.Finite.{allTo}
 use Rattle.finite.specs.laws.Lists.{all-none, all-more}
-use Rattle.records.specs.Lent.{placeAt}
+use Rattle.records.specs.Lent.{phasesAs, placeAt}
 use borrow.Author.Needs.{needs}
 use Rattle.records.proofs.ranges.places_in.Statement.{statement}
 use Rattle.records.proofs.ranges.places_in.Tie as tie
 
 abbrev Inv-loop : tie.InvT-loop
-Inv-loop phases work cost counts ok₀ p₀ ok p = (p ≤ 256) × (ok ≡ allTo p (placeAt phases work cost counts))
+Inv-loop phases work cost counts ok₀ p₀ ok p = (p ≤ 256) × (ok ≡ allTo p (placeAt (phasesAs phases work cost) counts))
 
 abbrev μ-loop : tie.MeasureT-loop
 μ-loop phases work cost counts ok₀ p₀ ok p = 256 - p
