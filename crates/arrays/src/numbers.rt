@@ -2,7 +2,7 @@
 ghost use mathlib.Core.Path.{_≡_};
 ghost use mathlib.Core.Bool.{cond};
 ghost use Prim.Native.Nat.{_+_, _-_, _/_, _%_, _<_, min};
-ghost use lib.ListN.{getD, set, length};
+ghost use lib.ListN.{getD, length};
 ghost use Rattle.arrays.specs.Masks.{digit};
 
 pub fn up_to(s: u32, t: u32) -> u32
@@ -33,6 +33,13 @@ pub fn index(x: u32) -> usize
     ensures { λ r. ⌜ (r ≡ x) × (r < 4294967296) ⌝ }
 {
     x as usize
+}
+
+// The index of what is numbered from 1.
+pub fn from_one(number: u32) -> usize
+    ensures { λ r. ⌜ (r ≡ number - 1) × (r < 4294967296) ⌝ }
+{
+    index(down(number))
 }
 
 pub fn one_if(b: bool) -> u64
@@ -71,15 +78,4 @@ pub fn at256(a: &[u32; 256], i: usize) -> u32
     ensures { λ r. ⌜ r ≡ getD (now (a .entry)) i 0 ⌝ }
 {
     if i < 256 { a[i] } else { 0 }
-}
-
-pub fn put_if(c: bool, a: &mut [u32; 32], i: usize, v: u32)
-    requires { ⌜ length (now a) ≡ 32 ⌝ }
-    ensures { λ r. ⌜ (now (a .exit) ≡ cond c (set (now (a .entry)) i v) (now (a .entry))) × (length (now (a .exit)) ≡ 32) ⌝ }
-{
-    if c {
-        if i < 32 {
-            a[i] = v;
-        }
-    }
 }

@@ -1,7 +1,9 @@
-pub mod ArrayRules
-pub mod ArraySteps
-pub mod Moves
-pub mod Running
-pub mod Empty
+-- What is proved of the definitions beside this folder.
+pub mod Updates
+pub mod Reads
+pub mod Admitting
+pub mod Picking
+pub mod Working
+pub mod Elapsing
 pub mod Follows
 pub mod RecordKept

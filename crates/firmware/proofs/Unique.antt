@@ -8,9 +8,9 @@ use Rattle.start.specs.declared.Started as begun
 use Rattle.start.specs.laws.Beginning.{starts-one}
 use Rattle.firmware.specs.declared.Outcome.{Outcome}
 use Rattle.firmware.specs.declared.Started.{Started}
-use Rattle.firmware.specs.Interface.{toldOf, begunOf, Judges, Starts}
+use Rattle.firmware.specs.Interface.{toldOf, begunOf, JudgesInC, Starts}
 
-pub told-unique : {bytes before after after′ : List ℕ} {r r′ : Outcome} → Judges bytes before after r → Judges bytes before after′ r′ → (r ≡ r′) × (after ≡ after′)
+pub told-unique : {bytes before after after′ : List ℕ} {r r′ : Outcome} → JudgesInC bytes before after r → JudgesInC bytes before after′ r′ → (r ≡ r′) × (after ≡ after′)
 told-unique a b =
     let e = judges-unique (a .judged) (b .judged) in
     (a .returned ∙ ap toldOf (e .0) ∙ sym (b .returned), e .1)

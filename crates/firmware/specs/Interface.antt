@@ -3,8 +3,8 @@
 use mathlib.Core.Path.{_≡_}
 use mathlib.Core.List.{List}
 use Prim.Native.Nat.{ℕ}
-use Rattle.answer.specs.declared.Outcome as answer
-use Rattle.answer.specs.declared.Outcome.the-variants.{Answered, TurnedAway}
+use Rattle.edf.specs.declared.JudgeOutcome.{JudgeOutcome}
+use Rattle.edf.specs.declared.JudgeOutcome.the-variants.{Answered, TurnedAway}
 use Rattle.edf.specs.Judge as edf
 use Rattle.records.specs.declared.Dispatcher.{Dispatcher}
 use Rattle.start.specs.Start as start
@@ -15,13 +15,13 @@ use Rattle.firmware.specs.declared.Outcome.{Outcome}
 use Rattle.firmware.specs.declared.Started.{Started}
 
 -- An answer has reason 0 and its length; a table turned away has the reason and the place. What does not apply is 0.
-abbrev pub toldOf : answer.Outcome → Outcome
+abbrev pub toldOf : JudgeOutcome → Outcome
 toldOf (Answered length) = record { reason = 0; place = 0; length = length }
 toldOf (TurnedAway reason place) = record { reason = reason; place = place; length = 0 }
 
 -- What the judge returns to C and leaves in the buffer: some outcome that `edf::judge` promises, in these numbers.
-pub record Judges (bytes before after : List ℕ) (r : Outcome) : Type 0 where
-  pub outcome : answer.Outcome
+pub record JudgesInC (bytes before after : List ℕ) (r : Outcome) : Type 0 where
+  pub outcome : JudgeOutcome
   pub judged : edf.Judges bytes before after outcome
   pub returned : r ≡ toldOf outcome
 

@@ -3,7 +3,7 @@ use dispatch::Answer;
 use records::Dispatcher;
 ghost use mathlib.Core.Path.{_≡_};
 ghost use Rattle.dispatch.specs.Tick.{Ticks};
-ghost use Rattle.firmware.specs.Interface.{Judges, toldOf, Starts, begunOf, unrefused};
+ghost use Rattle.firmware.specs.Interface.{JudgesInC, toldOf, Starts, begunOf, unrefused};
 
 // What `clinkerbell_judge` returns: reason 0 and the answer's length, or the reason and the place.
 #[repr(C)]
@@ -14,16 +14,16 @@ pub struct Outcome {
 }
 
 // The enum as C has it.
-fn told(outcome: answer::Outcome) -> Outcome
+fn told(outcome: edf::JudgeOutcome) -> Outcome
     ensures { λ r. ⌜ r ≡ toldOf outcome ⌝ }
 {
     match outcome {
-        answer::Outcome::Answered(length) => Outcome {
+        edf::JudgeOutcome::Answered(length) => Outcome {
             reason: 0,
             place: 0,
             length: length as u64,
         },
-        answer::Outcome::TurnedAway(reason, place) => Outcome {
+        edf::JudgeOutcome::TurnedAway(reason, place) => Outcome {
             reason: reason as u32,
             place: place as u64,
             length: 0,
@@ -34,7 +34,7 @@ fn told(outcome: answer::Outcome) -> Outcome
 // Judges a table in bytes and writes the answer into the caller's buffer.
 #[no_mangle]
 pub extern "C" fn clinkerbell_judge(table: &[u8], answer: &mut [u8]) -> Outcome
-    ensures { λ r. ⌜ Judges (now (table .entry)) (now (answer .entry)) (now (answer .exit)) r ⌝ }
+    ensures { λ r. ⌜ JudgesInC (now (table .entry)) (now (answer .entry)) (now (answer .exit)) r ⌝ }
 {
     told(edf::judge(table, answer))
 }
@@ -112,5 +112,5 @@ pub extern "C" fn clinkerbell_start(table: &[u8]) -> Started
 pub extern "C" fn clinkerbell_tick(dispatcher: &mut Dispatcher, mask: u32, flag: bool) -> Answer
     ensures { λ r. ⌜ Ticks (now (dispatcher .entry)) mask flag (now (dispatcher .exit)) r ⌝ }
 {
-    lent::advance(dispatcher, mask, flag)
+    lent::tick(dispatcher, mask, flag)
 }

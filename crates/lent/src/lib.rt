@@ -88,7 +88,7 @@ pub fn demand_of(tasks: [TaskLoad; 32], t: u64) -> Demand
 }
 
 // Moves the caller's own record forward by a tick, and answers what the tick answers.
-pub fn advance(dispatcher: &mut Dispatcher, mask: u32, flag: bool) -> Answer
+pub fn tick(dispatcher: &mut Dispatcher, mask: u32, flag: bool) -> Answer
     ensures { λ r. ⌜ Ticks (now (dispatcher .entry)) mask flag (now (dispatcher .exit)) r ⌝ }
 {
     let t = dispatch::tick(*dispatcher, mask, flag);
@@ -97,10 +97,10 @@ pub fn advance(dispatcher: &mut Dispatcher, mask: u32, flag: bool) -> Answer
 }
 
 // The same of a record by value: whoever calls it makes no reference to a struct.
-pub fn advanced(dispatcher: Dispatcher, mask: u32, flag: bool) -> Ticked
+pub fn ticked(dispatcher: Dispatcher, mask: u32, flag: bool) -> Ticked
     ensures { λ r. ⌜ Ticks dispatcher mask flag (r .next) (r .answer) ⌝ }
 {
     let mut next = dispatcher;
-    let answer = advance(&mut next, mask, flag);
+    let answer = tick(&mut next, mask, flag);
     Ticked { next, answer }
 }

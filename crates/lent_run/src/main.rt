@@ -114,7 +114,7 @@ fn print_run() {
     let mut dispatcher = ready_a();
     let mut tick: u64 = 0;
     while tick < 18 {
-        let t = lent::advanced(dispatcher, asked(tick), false);
+        let t = lent::ticked(dispatcher, asked(tick), false);
         print_tick(tick, t.answer);
         dispatcher = t.next;
         tick = tick + 1;

@@ -12,8 +12,7 @@ use lib.Arith.{digits-lt}
 use lib.Pow.{high, low, field, mod-mod-pow, mod-pow-add, pow-mono, shl-exact}
 use lib.Count.{ones, onesIn, ones-cat}
 use Rattle.arrays.specs.Masks.{digit, bit, maskOf, countOf}
-use Rattle.finite.specs.Finite.{listTo}
-use Rattle.finite.specs.laws.Lists.{last-or-below, list-alike}
+use Rattle.finite.specs.laws.Lists.{last-or-below}
 
 digit-lt : (b : Bool) → digit b < 2
 digit-lt true = lit< tt
@@ -107,7 +106,3 @@ maskOf-none p = refl
 -- what is let in is at most what is asked for, and the difference is what is turned away
 pub asked-split : (n m : ℕ) (p : ℕ → Bool) → m < 2 ^ n → ((i : ℕ) → i < n → p i ≡ true → bit m i ≡ true) → maskOf n p + maskOf n (λ i. bit m i && not (p i)) ≡ m
 asked-split n m p l h = maskOf-rest n p (bit m) h ∙ maskOf-bits n m ∙ mod-eq-of-lt l
-
--- a list that goes by the bits of a mask goes by what the mask is made of
-pub by-bits : {A : Type 0} (n m : ℕ) (p : ℕ → Bool) (g : Bool → ℕ → A) → m ≡ maskOf n p → listTo n (λ i. g (bit m i) i) ≡ listTo n (λ i. g (p i) i)
-by-bits n m p g e = list-alike n (λ i. g (bit m i) i) (λ i. g (p i) i) (λ k l. ap (λ (b : Bool). g b k) (rw e (bit-maskOf n p k l)))

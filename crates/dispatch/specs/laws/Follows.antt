@@ -1,134 +1,160 @@
--- A tick on the arrays, as the code makes it, keeps the promise `Ticks`: it is the rules' tick; and a tick has one outcome.
+-- The four steps one after the other keep the promise `Ticks`: they are the rules' tick; and a tick has one outcome.
 -- Assumes nothing.
-use mathlib.Core.Path.{_≡_, refl, sym, ap, _∙_, subst, subst₂}
-use mathlib.Core.Bool.{Bool, true, false, not, _&&_}
-use Prim.Native.Nat.{ℕ, _-_, _^_, _<_}
+use mathlib.Core.Path.{_≡_, refl, sym, ap, _∙_}
+use mathlib.Core.Bool.{Bool, true, not, _&&_, and-eq-true-iff}
+use Prim.Native.Nat.{ℕ, _+_, _-_, _^_, _≤_, _<_}
 use native.Mathlib.Omega.{arith}
 use lib.Count.{ones}
 use Rattle.arrays.specs.Masks.{bit, countOf, maskOf}
-use Rattle.arrays.specs.laws.Masks.{maskOf-alike, ones-maskOf}
-use Rattle.records.specs.Ranges.{inRange, usable}
-use Rattle.records.specs.Record.{countsIn, emptyRecord, recordOf, requestOf, stateIn, tasksIn}
-use Rattle.records.specs.Ranges.{WithCounts}
-use Rattle.dispatch.specs.Tick.{Ticks, answerFor, recordAfter, rulesAnswer}
-use Rattle.dispatch.specs.declared.Answer as code
-use Rattle.records.specs.declared.Dispatcher.{Dispatcher}
-use Rattle.dispatch.specs.laws.ArrayRules.{Steps, admits, answerWith, begun, dueAt, elapsed, picked, pieceEnds, ran}
-use Rattle.dispatch.specs.laws.ArraySteps.{admits-split}
-use Rattle.dispatch.specs.laws.Empty.{empty-steps, nothing}
-use Rattle.records.specs.laws.Empty.{empty-in-range, empty-long}
-use Rattle.records.specs.laws.Fields.{Fields, Long}
-use Rattle.records.specs.laws.InRange.{range-fields}
-use Rattle.dispatch.specs.laws.Moves.{admission, admits-is, elapses, picking}
-use Rattle.dispatch.specs.laws.Running.{answering, running}
-use Rattle.records.specs.laws.Views.{record-of-views}
-use Rattle.finite.specs.Finite.{Below}
-use Rattle.finite.specs.laws.Tests.{cond-false, cond-true}
+use Rattle.arrays.specs.laws.Masks.{asked-split, maskOf-alike, ones-maskOf}
 use Rattle.model.specs.Phase.{Choice}
 use Rattle.model.specs.Tasks.{Tasks}
-use Rattle.promise.specs.Rules.{Answer, State, admit, answerOf, letsIn, pick, tick, workAt}
+use Rattle.promise.specs.Rules.{Answer, State, admit, answerBy, elapse, letsIn, pick, workAt}
 use Rattle.promise.specs.laws.Answers.{answer-lets}
 use Rattle.promise.specs.laws.Entering.{admit-proper}
-use Rattle.promise.specs.laws.Kept.{ranged-of}
-use Rattle.promise.specs.laws.Range.{Range, admit-range}
-use Rattle.promise.specs.laws.Remaining.{Proper, Ranged}
+use Rattle.promise.specs.laws.Range.{Range, admit-range, pick-range, work-range}
+use Rattle.promise.specs.laws.Remaining.{Proper}
 use Rattle.promise.specs.laws.Starting.{picks}
+use Rattle.promise.specs.laws.Working.{works-at}
+use Rattle.records.specs.Ranges.{inRange, usable}
+use Rattle.records.specs.Record.{countsIn, recordOf, requestOf, stateIn, tasksIn}
+use Rattle.records.specs.declared.Dispatcher.{Dispatcher}
+use Rattle.records.specs.laws.Fields.{Fields, Long}
+use Rattle.records.specs.laws.InRange.{range-fields}
+use Rattle.dispatch.specs.Steps.{Admits, Elapses, Picks, Works, ranOf}
+use Rattle.dispatch.specs.Tick.{Ticks, answerFor, recordAfter, rulesAnswer}
+use Rattle.dispatch.specs.declared.Answer as code
+use Rattle.dispatch.specs.declared.steps.Ran.{Ran}
+use Rattle.dispatch.specs.laws.Reads.{ranged, reads}
 
--- what promise's theory asks of a table's phases
-pub table-ranged : (S : Tasks) (x : Choice) → WithCounts S x → Below (S .n) (Ranged S x)
-table-ranged S x table =
-    ranged-of S x (λ i l. table .table .task i l .phases-least) (λ i j l k. table .counts .count-least i j l k) (λ i j l k. table .counts .count-most i j l k)
+-- the answer, made of what the steps answer
+abbrev pub answerWith : ℕ → ℕ → Ran → code.Answer
+answerWith asked entered ran = record {
+  admitted = entered;
+  away = asked - entered;
+  number = ones entered;
+  task = ran .task;
+  phase = ran .phase;
+  piece = ran .piece;
+  ended = ran .ended;
+  finished = ran .finished;
+}
 
-module _ (S : Tasks) (x : Choice) (table : WithCounts S x) (s : State) (range : Range S s) (proper : Proper S x s) (mask : ℕ) (flag : Bool) where
-  abbrev d : Dispatcher
-  d = recordOf S x s
+first-of-four : (a b c e : Bool) → (a && b && c && e) ≡ true → a ≡ true
+first-of-four a b c e h = and-eq-true-iff a b .0 (and-eq-true-iff (a && b) c .0 (and-eq-true-iff (a && b && c) e .0 h .0) .0) .0
 
-  -- the state after admission, and after starting a piece
+-- what is let in and what is turned away make up the mask
+asked-parts : (S : Tasks) (s : State) (asked : ℕ) → asked < 2 ^ 32 → maskOf 32 (letsIn S s (bit asked)) + maskOf 32 (λ i. bit asked i && not (letsIn S s (bit asked) i)) ≡ asked
+unfolding letsIn
+asked-parts S s asked l = asked-split 32 asked (letsIn S s (bit asked)) l (λ i h b. first-of-four _ _ _ _ b)
+
+-- so that no more is let in than asked
+pub entered-most : (d : Dispatcher) (asked : ℕ) (next : Dispatcher) (entered : ℕ) → asked < 2 ^ 32 → Admits d asked next entered → entered ≤ asked
+entered-most d asked next entered l h = omega (arith, h .answered, asked-parts (tasksIn d) (stateIn d) asked l)
+
+-- ---- the four steps
+module _ (d : Dispatcher) (f : Fields d) (asked : ℕ) (flag : Bool) (a b c next : Dispatcher) (entered : ℕ) (ran : Ran)
+    (admits : Admits d asked a entered) (picked : Picks a b) (worked : Works b flag c ran) (elapsed : Elapses c next) where
+  abbrev S : Tasks
+  S = tasksIn d
+
+  abbrev x : Choice
+  x = countsIn d
+
+  abbrev s : State
+  s = stateIn d
+
   abbrev s₁ : State
-  s₁ = admit S (bit mask) s
+  s₁ = admit S (bit asked) s
 
   abbrev s₂ : State
   s₂ = pick S x s₁
 
-  proper₁ : Proper S x s₁
-  proper₁ = admit-proper S x (table-ranged S x table) s proper (bit mask)
+  abbrev s₃ : State
+  s₃ = workAt S x flag s₂ (s₂ .run)
 
-  proper₂ : Proper S x s₂
-  proper₂ = picks S x (table-ranged S x table) s₁ proper₁ .1
+  proper₁ : Proper S x s₁
+  proper₁ = admit-proper S x (ranged d f) s (f .jobs) (bit asked)
 
   range₁ : Range S s₁
-  range₁ = admit-range S x (table-ranged S x table) s range (bit mask)
+  range₁ = admit-range S x (ranged d f) s (f .state) (bit asked)
 
-  begun-is : begun d mask ≡ recordOf S x s₂
-  begun-is = ap picked (admission S x table s mask) ∙ picking S x table s₁ proper₁ range₁
+  proper₂ : Proper S x s₂
+  proper₂ = picks S x (ranged d f) s₁ proper₁ .1
 
-  moved-is : elapsed (ran (begun d mask) flag) ≡ recordOf S x (tick S x (requestOf mask flag) s)
-  moved-is =
-      ap (λ (e : Dispatcher). elapsed (ran e flag)) begun-is ∙
-      ap elapsed (running S x table s₂ proper₂ flag) ∙
-      elapses S x table (workAt S x flag s₂ (s₂ .run))
+  range₂ : Range S s₂
+  range₂ = pick-range S x (ranged d f) s₁ range₁ (s₁ .run)
 
-  abbrev answer : Answer
-  answer = answerOf S x (requestOf mask flag) s
+  proper₃ : Proper S x s₃
+  proper₃ = works-at S x (ranged d f) 0 flag s₂ proper₂ (s₂ .run) refl .1
 
-  entered-is : (i : ℕ) → i < 32 → admits d mask i ≡ answer .letIn i
-  entered-is i l = admits-is S x table s mask i l ∙ sym (answer-lets S x (letsIn S s (bit mask)) flag s₂ (s₂ .run) i)
+  range₃ : Range S s₃
+  range₃ = work-range S x (ranged d f) flag s₂ proper₂ range₂ (s₂ .run) refl
 
-  admitted-is : maskOf 32 (admits d mask) ≡ maskOf 32 (answer .letIn)
-  admitted-is = maskOf-alike 32 (admits d mask) (answer .letIn) entered-is
+  picked-is : b ≡ recordOf S x s₂
+  picked-is =
+      picked .moved ∙ ap (λ (r : Dispatcher). recordOf (tasksIn r) (countsIn r) (pick (tasksIn r) (countsIn r) (stateIn r))) (admits .moved) ∙
+      reads d f s₁ range₁ proper₁ (λ S x s. recordOf S x (pick S x s))
 
-  away-is : mask < 2 ^ 32 → mask - maskOf 32 (admits d mask) ≡ maskOf 32 (λ i. bit mask i && not (answer .letIn i))
+  worked-is : c ≡ recordOf S x s₃
+  worked-is =
+      worked .moved ∙ ap (λ (r : Dispatcher). recordOf (tasksIn r) (countsIn r) (workAt (tasksIn r) (countsIn r) flag (stateIn r) (r .running))) picked-is ∙
+      reads d f s₂ range₂ proper₂ (λ S x s. recordOf S x (workAt S x flag s (s .run)))
+
+  next-is : next ≡ recordAfter d (requestOf asked flag)
+  next-is =
+      elapsed .moved ∙ ap (λ (r : Dispatcher). recordOf (tasksIn r) (countsIn r) (elapse (tasksIn r) (stateIn r))) worked-is ∙
+      reads d f s₃ range₃ proper₃ (λ S x s. recordOf S x (elapse S s))
+
+  ran-is : ran ≡ ranOf (rulesAnswer d (requestOf asked flag))
+  ran-is =
+      worked .answered (letsIn S s (bit asked)) ∙
+      ap (λ (r : Dispatcher). ranOf (answerBy (tasksIn r) (countsIn r) (letsIn S s (bit asked)) flag (stateIn r) (r .running))) picked-is ∙
+      reads d f s₂ range₂ proper₂ (λ S′ x s′. ranOf (answerBy S′ x (letsIn S s (bit asked)) flag s′ (s′ .run)))
+
+  lets-is : (i : ℕ) → letsIn S s (bit asked) i ≡ rulesAnswer d (requestOf asked flag) .letIn i
+  lets-is i = sym (answer-lets S x (letsIn S s (bit asked)) flag s₂ (s₂ .run) i)
+
+  entered-is : entered ≡ maskOf 32 (rulesAnswer d (requestOf asked flag) .letIn)
+  entered-is = admits .answered ∙ maskOf-alike 32 (letsIn S s (bit asked)) (rulesAnswer d (requestOf asked flag) .letIn) (λ i l. lets-is i)
+
+  away-is : asked < 2 ^ 32 → asked - entered ≡ maskOf 32 (λ i. bit asked i && not (rulesAnswer d (requestOf asked flag) .letIn i))
   away-is l =
-      let e : mask - maskOf 32 (admits d mask) ≡ maskOf 32 (λ i. bit mask i && not (admits d mask i)) = omega (arith, admits-split d mask (maskOf 32 (admits d mask)) l refl) in
+      let e : asked - entered ≡ maskOf 32 (λ i. bit asked i && not (letsIn S s (bit asked) i)) = omega (arith, admits .answered, asked-parts S s asked l) in
       e ∙
-      maskOf-alike 32 (λ i. bit mask i && not (admits d mask i)) (λ i. bit mask i && not (answer .letIn i)) (λ i h. ap (λ b. bit mask i && not b) (entered-is i h))
+      maskOf-alike 32 (λ i. bit asked i && not (letsIn S s (bit asked) i)) (λ i. bit asked i && not (rulesAnswer d (requestOf asked flag) .letIn i))
+      (λ i h. ap (λ b. bit asked i && not b) (lets-is i))
 
-  answered-is : mask < 2 ^ 32 → answerWith mask (maskOf 32 (admits d mask)) (dueAt (begun d mask) (begun d mask .running)) (pieceEnds (begun d mask) flag) ≡ answerFor mask answer
-  answered-is l =
-      ap (λ (e : Dispatcher). answerWith mask (maskOf 32 (admits d mask)) (dueAt e (e .running)) (pieceEnds e flag)) begun-is ∙
-      answering S x table s₂ proper₂ flag mask (maskOf 32 (admits d mask)) (letsIn S s (bit mask)) ∙
-      (λ k. record {
-        admitted = admitted-is k;
+  answer-is : asked < 2 ^ 32 → answerWith asked entered ran ≡ answerFor asked (rulesAnswer d (requestOf asked flag))
+  answer-is l =
+      λ k. record {
+        admitted = entered-is k;
         away = away-is l k;
-        number = ones (admitted-is k);
-        task = answer .ran;
-        phase = answer .phase;
-        piece = answer .piece;
-        ended = answer .ended;
-        finished = answer .finished;
-      })
+        number = ones (entered-is k);
+        task = ran-is k .task;
+        phase = ran-is k .phase;
+        piece = ran-is k .piece;
+        ended = ran-is k .ended;
+        finished = ran-is k .finished;
+      }
 
-  steps-follow : mask < 2 ^ 32 → (next : Dispatcher) (r : code.Answer) → Steps d mask flag next r
-      → (next ≡ recordOf S x (tick S x (requestOf mask flag) s)) × (r ≡ answerFor mask answer)
-  steps-follow l next r h = (h .moved ∙ moved-is, h .answered ∙ answered-is l)
+-- ---- the tick
 
--- a record e that d is taken as, stepped on its arrays
-ticks-as : (d e : Dispatcher) → usable d ≡ e → Long e → Fields e → (mask : ℕ) (flag : Bool) → mask < 2 ^ 32 → (next : Dispatcher) (r : code.Answer) → Steps e mask flag next r → Ticks d mask flag next r
-ticks-as d e u long f mask flag l next r h =
-    let same : recordOf (tasksIn e) (countsIn e) (stateIn e) ≡ e = record-of-views e long (f .binary) in
-    let p = steps-follow (tasksIn e) (countsIn e) (f .table) (stateIn e) (f .state) (f .jobs) mask flag l next r
-    (subst (λ (z : Dispatcher). Steps z mask flag next r) (sym same) h) in
+-- of a record d that is taken as e, which goes through the four steps
+pub ticks-by : (d e : Dispatcher) → e ≡ usable d → Long e → inRange e ≡ true → (mask : ℕ) (flag : Bool) → mask < 2 ^ 32 →
+    (a b c next : Dispatcher) (entered : ℕ) (ran : Ran) (r : code.Answer) →
+    Admits e mask a entered → Picks a b → Works b flag c ran → Elapses c next → r ≡ answerWith mask entered ran → Ticks d mask flag next r
+ticks-by d e u long range mask flag l a b c next entered ran r h₁ h₂ h₃ h₄ h =
+    let f : Fields e = range-fields e long range in
+    let answered : r ≡ answerFor mask (rulesAnswer e (requestOf mask flag)) = h ∙ answer-is e f mask flag a b c next entered ran h₁ h₂ h₃ h₄ l in
     record {
-      moved = p .0 ∙ ap (λ (z : Dispatcher). recordAfter z (requestOf mask flag)) (sym u);
-      answered = p .1 ∙ ap (λ (z : Dispatcher). answerFor mask (rulesAnswer z (requestOf mask flag))) (sym u);
+      moved = next-is e f mask flag a b c next entered ran h₁ h₂ h₃ h₄ ∙ ap (λ (z : Dispatcher). recordAfter z (requestOf mask flag)) u;
+      answered = answered ∙ ap (λ (z : Dispatcher). answerFor mask (rulesAnswer z (requestOf mask flag))) u;
       number =
-          ap (λ (z : code.Answer). z .number) (p .1) ∙
+          ap (λ (z : code.Answer). z .number) answered ∙
           ones-maskOf 32 (rulesAnswer e (requestOf mask flag) .letIn) ∙
-          ap (λ (z : Dispatcher). countOf 32 (rulesAnswer z (requestOf mask flag) .letIn)) (sym u);
+          ap (λ (z : Dispatcher). countOf 32 (rulesAnswer z (requestOf mask flag) .letIn)) u;
     }
-
--- a record that the code's test passes is stepped as it is, any other gives what the empty record does
-pub ticks-in : (d : Dispatcher) → Long d → inRange d ≡ true → (mask : ℕ) (flag : Bool) → mask < 2 ^ 32 → (next : Dispatcher) (r : code.Answer) → Steps d mask flag next r → Ticks d mask flag next r
-ticks-in d long e mask flag l next r h =
-    ticks-as d d (cond-true (inRange d) d emptyRecord e) long (range-fields d long e) mask flag l next r h
-
-pub ticks-out :
-    (d : Dispatcher) → Long d → inRange d ≡ false → (mask : ℕ) (flag : Bool) → mask < 2 ^ 32 → (next : Dispatcher) (r : code.Answer) →
-    next ≡ emptyRecord → r ≡ nothing mask → Ticks d mask flag next r
-ticks-out d long t mask flag l next r e f =
-    ticks-as d emptyRecord (cond-false (inRange d) d emptyRecord t) empty-long
-    (range-fields emptyRecord empty-long empty-in-range) mask flag l next r
-    (subst₂ (Steps emptyRecord mask flag) (sym e) (sym f) (empty-steps mask flag))
 
 -- two outcomes that the promise allows are equal
 pub ticks-unique : (d : Dispatcher) (mask : ℕ) (flag : Bool) (next next′ : Dispatcher) (r r′ : code.Answer) → Ticks d mask flag next r → Ticks d mask flag next′ r′ → (next ≡ next′) × (r ≡ r′)

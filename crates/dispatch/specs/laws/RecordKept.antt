@@ -1,6 +1,6 @@
 -- DEMAND 3 for the dispatcher's record: any series of ticks that keep their promise, from the ready record of a table that is ready, keeps demand 3.
 -- Assumes nothing.
-use mathlib.Core.Path.{_≡_, refl, sym, ap, ap₂, _∙_, subst, subst₂}
+use mathlib.Core.Path.{_≡_, refl, sym, ap, _∙_, subst}
 use mathlib.Core.Bool.{Bool, true, false, _&&_}
 use Prim.Native.Nat.{ℕ, zero, suc, _%_, _^_, _≤_, _<_}
 use native.Mathlib.Decide.{decLt}
@@ -16,7 +16,7 @@ use Rattle.records.specs.Start.{Ready, readyRecord}
 use Rattle.dispatch.specs.Tick.{Ticks, answerFor, answerIn, recordAfter, rulesAnswer}
 use Rattle.dispatch.specs.declared.Answer as code
 use Rattle.records.specs.declared.Dispatcher.{Dispatcher}
-use Rattle.dispatch.specs.laws.Follows.{table-ranged}
+use Rattle.dispatch.specs.laws.Reads.{table-ranged}
 use Rattle.records.specs.laws.Recorded.{read-as, usable-is}
 use Rattle.model.specs.Phase.{Choice}
 use Rattle.model.specs.Tasks.{Sane, Tasks}

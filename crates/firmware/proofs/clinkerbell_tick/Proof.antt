@@ -1,5 +1,5 @@
--- `firmware::clinkerbell_tick` meets its contract: a walk of its MIR, by hand. The reference is lent again to `lent::advance`, for a lifetime that is made for the call, and comes back at the last value that `advance` says.
--- All that the proof knows of `advance` is that it meets its contract.
+-- `firmware::clinkerbell_tick` meets its contract: a walk of its MIR, by hand. The reference is lent again to `lent::tick`, for a lifetime that is made for the call, and comes back at the last value that `tick` says.
+-- All that the proof knows of `tick` is that it meets its contract.
 -- Assumes nothing.
 use mathlib.Core.Path.{refl}
 use Prim.Native.Nat.{ℕ, _<_, _^_}
@@ -41,13 +41,13 @@ use denote.Exit.{yes}
 use Rattle.dispatch.specs.Tick.{Ticks}
 use Rattle.records.specs.declared.Dispatcher.{Dispatcher}
 use Rattle.dispatch.specs.declared.Answer.{Answer}
-use Rattle.dispatch.proofs.Dispatcher as T
+use Rattle.records.proofs.Dispatcher as T
 use Rattle.dispatch.proofs.Answer as R
 use Rattle.dispatch.proofs.Answer.Laws as R′
-use Rattle.lent.proofs.advance as g
-use Rattle.lent.proofs.advance.Symbol as g-def
-use Rattle.lent.proofs.advance.Symbol.{name as #lent·advance}
-use Rattle.lent.proofs.advance.Met as g-thm
+use Rattle.lent.proofs.tick as g
+use Rattle.lent.proofs.tick.Symbol as g-def
+use Rattle.lent.proofs.tick.Symbol.{name as #lent·tick}
+use Rattle.lent.proofs.tick.Met as g-thm
 use Rattle.firmware.proofs.clinkerbell_tick.Key.{name as #firmware·clinkerbell-tick}
 use Rattle.firmware.proofs.clinkerbell_tick as f
 use Rattle.firmware.proofs.clinkerbell_tick.Statement as stated
@@ -57,8 +57,8 @@ abbrev stayed : Stays (f.ended .signature .params) (f.ended .kept)
 stayed = (stay-ref (0 ∷ []) tt (plain (λ _. T.the-row)), (stay-none (λ _. u32) yes, (stay-none (λ _. bool) yes, tt)))
 
 -- the contract that the proof cites
-abbrev Advance : {M : Type 1} (𝓤 : URA M) (H : Heap 𝓤) (A : Atoms 𝓤) (at-mem : Memory → SProp 𝓤) (run : Routine → Fun 𝓤) → Contract 𝓤
-Advance 𝓤 H A at-mem run = tripleOf 𝓤 H A g.signature (g.spec 𝓤 H A at-mem run)
+abbrev Tick : {M : Type 1} (𝓤 : URA M) (H : Heap 𝓤) (A : Atoms 𝓤) (at-mem : Memory → SProp 𝓤) (run : Routine → Fun 𝓤) → Contract 𝓤
+Tick 𝓤 H A at-mem run = tripleOf 𝓤 H A g.signature (g.spec 𝓤 H A at-mem run)
 
 module _ {M : Type 1} (𝓤 : URA M) (H : Heap 𝓤) (A : Atoms 𝓤) (W : Given 𝓤 H A) (at-mem : Memory → SProp 𝓤) (run : Routine → Fun 𝓤) (κ : Lft) (q : Share) (b o : ℕ) (γ : GName) (h : Dispatcher) (n : ℕ) (fits : n < 2 ^ 32) (y : Bool) where
   -- the reference under a name, at a record; and what owns it for a lifetime
@@ -84,17 +84,17 @@ module _ {M : Type 1} (𝓤 : URA M) (H : Heap 𝓤) (A : Atoms 𝓤) (W : Given
       nothing ! $ move ! (2 ∷ 0 ∷ []) $ join ! $ frame ! $ nothing ! $ owned ! bool (Is bool) (bool-makes 𝓤 H A W) y _ refl $ fjoin ! $ owned ! u32 (Is u32) (uint-makes 𝓤 H A W w32) n _ (refl, fits) $ fjoin ! $
       move ! (1 ∷ 0 ∷ []) $ fjoin ! $ owned ! R.the-row (Is R.the-row) (LL.makes R.the-type R′.the-plain 𝓤 H A) a _ is $ move ! (1 ∷ 0 ∷ []) $ done !
 
-  -- what `advance`'s triple binds outside: the same place, lent for the lifetime α under the name δ
-  abbrev to : ℕ → GName → Advance 𝓤 H A at-mem run .Ghost
+  -- what `tick`'s triple binds outside: the same place, lent for the lifetime α under the name δ
+  abbrev to : ℕ → GName → Tick 𝓤 H A at-mem run .Ghost
   to α δ = (((α ∷ [], tt), (fullShare, tt), tt, (x δ h, (n, (y, tt))), at), tt)
 
-  asks : (α : ℕ) (δ : GName) → ent 𝓤 (sep 𝓤 (A .lft (α ∷ []) fullShare) (sem 𝓤 H A (own-at (α ∷ []) δ h))) (Advance 𝓤 H A at-mem run .pre (to α δ))
+  asks : (α : ℕ) (δ : GName) → ent 𝓤 (sep 𝓤 (A .lft (α ∷ []) fullShare) (sem 𝓤 H A (own-at (α ∷ []) δ h))) (Tick 𝓤 H A at-mem run .pre (to α δ))
   asks α δ =
       qed W (‵ (flft (α ∷ []) fullShare) ∷ ‵ (own-at (α ∷ []) δ h) ∷ []) ∵ nothing ! $ move ! (1 ∷ 0 ∷ []) $ join ! $ nothing ! $ move ! (2 ∷ []) $
       nothing ! $ owned ! bool (Is bool) (bool-makes 𝓤 H A W) y _ refl $ fjoin ! $ owned ! u32 (Is u32) (uint-makes 𝓤 H A W w32) n _ (refl, fits) $ fjoin ! $ move ! (1 ∷ 0 ∷ []) $ fjoin ! $
       move ! (2 ∷ 0 ∷ []) $ join ! $ frame ! $ done !
 
-  module _ (C : Calls 𝓤 H) (Λ : Loops 𝓤 H) (fm : FmC 𝓤 H (W .laws) C) (known : Triple 𝓤 (C #lent·advance) (Advance 𝓤 H A at-mem run)) where
+  module _ (C : Calls 𝓤 H) (Λ : Loops 𝓤 H) (fm : FmC 𝓤 H (W .laws) C) (known : Triple 𝓤 (C #lent·tick) (Tick 𝓤 H A at-mem run)) where
     walk : ent 𝓤 (onEntry 𝓤 H A f.signature (κ, tt) (q, tt) (x γ h, (n, (y, tt))) at) (WpFn 𝓤 H C Λ code.function (vptr b o ∷ vint w32 n ∷ vbool y ∷ []) Post)
     walk =
         qed W ((‵ (flft κ q) ⊛ ‵ ftrue) ∷ ‵ (owns (MutRef (named 0) κ T.the-row ∷ u32 ∷ bool ∷ []) (x γ h, (n, (y, tt))) at) ∷ []) ∵ split ! $ move ! (2 ∷ []) $ fsplit ! $ move ! (0 ∷ 2 ∷ []) $
@@ -106,9 +106,9 @@ module _ {M : Type 1} (𝓤 : URA M) (H : Heap 𝓤) (A : Atoms 𝓤) (W : Given
         -- the reference is lent again for a lifetime α of the call
         lft-new ! tt (λ α. move ! (11 ∷ 12 ∷ []) $
         use2 W (later (some (λ (δ : GName). ‵ (own-at (α ∷ []) δ h) ⊛ ‵ (LentAgain T.the-row κ (α ∷ []) q γ b o δ h)))) (lends-again 𝓤 H A W T.the-row (named 0) κ (α ∷ []) q γ b o (named 0) h) $ await ! tt $ pick ! (λ δ. split ! $
-        move ! (2 ∷ 0 ∷ []) $ use2 W (raw (Advance 𝓤 H A at-mem run .pre (to α δ))) (asks α δ) $
-        -- [what `advance` asks; the lender's part; _4; …; flag; …; mask; …; _1; …; room for _0; …]
-        calls-at ! fm (Advance 𝓤 H A at-mem run) known (to α δ) (and-then ! (load ! (from ! (stop !)) (look ! 2 refl)) (and-then ! (load ! (from ! (stop !)) (look ! 6 refl)) (and-then ! (load ! (from ! (stop !)) (look ! 4 refl)) (no-more !)))) (λ v.
+        move ! (2 ∷ 0 ∷ []) $ use2 W (raw (Tick 𝓤 H A at-mem run .pre (to α δ))) (asks α δ) $
+        -- [what `tick` asks; the lender's part; _4; …; flag; …; mask; …; _1; …; room for _0; …]
+        calls-at ! fm (Tick 𝓤 H A at-mem run) known (to α δ) (and-then ! (load ! (from ! (stop !)) (look ! 2 refl)) (and-then ! (load ! (from ! (stop !)) (look ! 6 refl)) (and-then ! (load ! (from ! (stop !)) (look ! 4 refl)) (no-more !)))) (λ v.
         use1 W (later (some (λ (a : Answer). ((‵ (flft (α ∷ []) fullShare) ⊛ ‵ ftrue) ⊛ ‵ (R.the-row .own a (v ∷ []))) ⊛ raw (ensured 𝓤 H A g.ended (g.clauses 𝓤 H A at-mem run) (α ∷ [], tt) (x δ h, (n, (y, tt))) tt a)))) (id⊢ 𝓤 _) $ await ! tt $ pick ! (λ a.
         split ! $ move ! (1 ∷ []) $ use1 W (some (λ (ws : Dispatcher × (Unit {0} × (Unit {0} × Unit {0}))). ‵ (lasts g.ended (α ∷ [], tt) (x δ h, (n, (y, tt))) ws) ⊛ raw (fact 𝓤 (Said (ws .0) a)))) (id⊢ 𝓤 _) $ pick ! (λ ws.
         split ! $ move ! (1 ∷ []) $ heard ! (Said (ws .0) a) (λ e. fsplit ! $ move ! (2 ∷ []) $ split ! $ move ! (1 ∷ []) $
@@ -123,11 +123,11 @@ module _ {M : Type 1} (𝓤 : URA M) (H : Heap 𝓤) (A : Atoms 𝓤) (W : Given
         keep ! (0 ∷ 1 ∷ []) $ by ! (exits (ws .0) a v e is)))))))))))))
 
 module _ {M : Type 1} (𝓤 : URA M) (H : Heap 𝓤) (A : Atoms 𝓤) (W : Given 𝓤 H A) (at-mem : Memory → SProp 𝓤) (run : Routine → Fun 𝓤) where
-  tick-walks : (C : Calls 𝓤 H) (Λ : Loops 𝓤 H) → FmC 𝓤 H (W .laws) C → Triple 𝓤 (C #lent·advance) (Advance 𝓤 H A at-mem run) → Walks 𝓤 H A f.ended stayed (WpFn 𝓤 H C Λ code.function) (f.clauses 𝓤 H A at-mem run)
+  tick-walks : (C : Calls 𝓤 H) (Λ : Loops 𝓤 H) → FmC 𝓤 H (W .laws) C → Triple 𝓤 (C #lent·tick) (Tick 𝓤 H A at-mem run) → Walks 𝓤 H A f.ended stayed (WpFn 𝓤 H C Λ code.function) (f.clauses 𝓤 H A at-mem run)
   tick-walks C Λ fm known = walked 𝓤 H A f.ended stayed (f.clauses 𝓤 H A at-mem run) (WpFn 𝓤 H C Λ code.function) (λ κs. (ptr-vals, (uint-vals w32, (bool-vals, tt)))) (λ κs. (mut-tells (named 0) (κs .0) T.the-row, (uint-tells w32, (bool-tells, tt))))
       (λ κs qs bounds a _ are. via 𝓤 _ (fst∗ 𝓤 _ (emp 𝓤)) (walk 𝓤 H A W at-mem run (κs .0) (qs .0) (a .0 .ptr .0) (a .0 .ptr .1) (a .0 .name) (a .0 .now) (a .1 .0) (are .1 .0 .1) (a .1 .1 .0) C Λ fm known))
 
-tick-meets : {M : Type 1} (𝓤 : URA M) (H : Heap 𝓤) (A : Atoms 𝓤) (W : Given 𝓤 H A) (at-mem : Memory → SProp 𝓤) (run : Routine → Fun 𝓤) (𝓣 : Tables 𝓤 H) → Triple 𝓤 (𝓣 .C #lent·advance) (Advance 𝓤 H A at-mem run)
+tick-meets : {M : Type 1} (𝓤 : URA M) (H : Heap 𝓤) (A : Atoms 𝓤) (W : Given 𝓤 H A) (at-mem : Memory → SProp 𝓤) (run : Routine → Fun 𝓤) (𝓣 : Tables 𝓤 H) → Triple 𝓤 (𝓣 .C #lent·tick) (Tick 𝓤 H A at-mem run)
     → Meets 𝓤 H A f.signature (WpFn 𝓤 H (𝓣 .C) (𝓣 .Λ) code.function) (f.spec 𝓤 H A at-mem run)
 tick-meets 𝓤 H A W at-mem run 𝓣 known =
     walk-meets 𝓤 H A f.ended stayed W (goes-ref 𝓤 H A W 1 0 tt (plain (λ _. T.the-row)), (goes-none 𝓤 H A W 1 (λ _. u32) yes (λ κs x f. refl), (goes-none 𝓤 H A W 1 (λ _. bool) yes (λ κs x f. refl), tt))) (f.clauses 𝓤 H A at-mem run)
@@ -139,4 +139,4 @@ clinkerbell-tick-spec 𝓤 H 𝓜 𝓖 𝓡 =
     entered 𝓤 H (tripleOf 𝓤 H (𝓖 .A) f.signature (f.spec 𝓤 H (𝓖 .A) (𝓜 .mem) (𝓡 .run)))
     (tables 𝓤 H 𝓜 𝓡 code.env .C) (tables 𝓤 H 𝓜 𝓡 code.env .Λ) #firmware·clinkerbell-tick code.function (code.unfolded 𝓤 H 𝓜 𝓡)
     (tick-meets 𝓤 H (𝓖 .A) (givenOf 𝓤 H 𝓜 𝓖) (𝓜 .mem) (𝓡 .run) (tablesOf 𝓤 H 𝓜 (tables 𝓤 H 𝓜 𝓡 code.env))
-    (cited 𝓤 H (Advance 𝓤 H (𝓖 .A) (𝓜 .mem) (𝓡 .run)) 𝓜 𝓡 code.env #lent·advance g-def.routine code.calls-lent·advance (g-thm.met 𝓤 H 𝓜 𝓖 𝓡)))
+    (cited 𝓤 H (Tick 𝓤 H (𝓖 .A) (𝓜 .mem) (𝓡 .run)) 𝓜 𝓡 code.env #lent·tick g-def.routine code.calls-lent·tick (g-thm.met 𝓤 H 𝓜 𝓖 𝓡)))

@@ -20,8 +20,8 @@ loop-holds c = omega arith
 asked-requires : tie.Need-asked-requires Inv-loop μ-loop
 asked-requires c κs = search needs
 
-advanced-requires : tie.Need-advanced-requires Inv-loop μ-loop
-advanced-requires c κs = search needs
+ticked-requires : tie.Need-ticked-requires Inv-loop μ-loop
+ticked-requires c κs = search needs
 
 print-tick-requires : tie.Need-print-tick-requires Inv-loop μ-loop
 print-tick-requires c κs = search needs
@@ -40,4 +40,4 @@ returns c = search needs
 
 pub print-run-spec : {M : Type 1} → statement M
 print-run-spec =
-    tie.close (tie.spec Inv-loop μ-loop ready-a-requires loop-holds asked-requires advanced-requires print-tick-requires add-tick loop-less loop-again returns)
+    tie.close (tie.spec Inv-loop μ-loop ready-a-requires loop-holds asked-requires ticked-requires print-tick-requires add-tick loop-less loop-again returns)

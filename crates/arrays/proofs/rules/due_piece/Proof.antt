@@ -3,11 +3,8 @@ use borrow.Author.Needs.{needs}
 use Rattle.arrays.proofs.rules.due_piece.Statement.{statement}
 use Rattle.arrays.proofs.rules.due_piece.Tie as tie
 
-down-requires : tie.Need-down-requires
-down-requires c κs = search needs
-
-index-requires : tie.Need-index-requires
-index-requires c κs = search needs
+from-one-requires : tie.Need-from-one-requires
+from-one-requires c κs = search needs
 
 due-place-requires : tie.Need-due-place-requires
 due-place-requires c κs = search needs
@@ -31,8 +28,7 @@ pub due-piece-spec : {M : Type 1} → statement M
 due-piece-spec =
     tie.close
     (tie.spec
-    down-requires
-    index-requires
+    from-one-requires
     due-place-requires
     at32-requires
     at32-requires-2

@@ -3,20 +3,14 @@ use borrow.Author.Needs.{needs}
 use Rattle.arrays.proofs.rules.due_place.Statement.{statement}
 use Rattle.arrays.proofs.rules.due_place.Tie as tie
 
-down-requires : tie.Need-down-requires
-down-requires c κs = search needs
-
-index-requires : tie.Need-index-requires
-index-requires c κs = search needs
+from-one-requires : tie.Need-from-one-requires
+from-one-requires c κs = search needs
 
 at32-requires : tie.Need-at32-requires
 at32-requires c κs = search needs
 
-down-requires-2 : tie.Need-down-requires-2
-down-requires-2 c κs = search needs
-
-index-requires-2 : tie.Need-index-requires-2
-index-requires-2 c κs = search needs
+from-one-requires-2 : tie.Need-from-one-requires-2
+from-one-requires-2 c κs = search needs
 
 mul-result : tie.Need-mul-result
 mul-result c = search needs
@@ -31,11 +25,9 @@ pub due-place-spec : {M : Type 1} → statement M
 due-place-spec =
     tie.close
     (tie.spec
-    down-requires
-    index-requires
+    from-one-requires
     at32-requires
-    down-requires-2
-    index-requires-2
+    from-one-requires-2
     mul-result
     add-result
     returns)

@@ -15,11 +15,8 @@ at256-requires-2 c κs = search needs
 at256-requires-3 : tie.Need-at256-requires-3
 at256-requires-3 c κs = search needs
 
-down-requires : tie.Need-down-requires
-down-requires c κs = search needs
-
-index-requires : tie.Need-index-requires
-index-requires c κs = search needs
+from-one-requires : tie.Need-from-one-requires
+from-one-requires c κs = search needs
 
 at32-requires : tie.Need-at32-requires
 at32-requires c κs = search needs
@@ -38,8 +35,7 @@ due-ticks-spec =
     at256-requires
     at256-requires-2
     at256-requires-3
-    down-requires
-    index-requires
+    from-one-requires
     at32-requires
     piece-ticks-requires
     returns)

@@ -10,10 +10,10 @@ use Rattle.arrays.proofs.rules.let_in.Statement.{statement}
 use Rattle.arrays.proofs.rules.let_in.Tie as tie
 
 abbrev Inv-loop : tie.InvT-loop
-Inv-loop tasks spacing since unfinished mask n m₀ i₀ m i = (i ≤ 32) × (m ≡ maskOf i (letsIn tasks spacing since unfinished mask))
+Inv-loop tasks spacing since unfinished mask count entered₀ i₀ entered i = (i ≤ 32) × (entered ≡ maskOf i (letsIn tasks spacing since unfinished mask))
 
 abbrev μ-loop : tie.MeasureT-loop
-μ-loop tasks spacing since unfinished mask n m₀ i₀ m i = 32 - i
+μ-loop tasks spacing since unfinished mask count entered₀ i₀ entered i = 32 - i
 
 loop-holds : tie.Need-loop-holds Inv-loop μ-loop
 loop-holds c = (search needs, maskOf-none _)
@@ -24,23 +24,23 @@ cast-asked c = search needs
 shr-asked : tie.Need-shr-asked Inv-loop μ-loop
 shr-asked c = search needs
 
-mul-b : tie.Need-mul-b Inv-loop μ-loop
-mul-b c = search needs
+mul-enters : tie.Need-mul-enters Inv-loop μ-loop
+mul-enters c = search needs
 
-element-copy-out-b : tie.Need-element-copy-out-b Inv-loop μ-loop
-element-copy-out-b c = search needs
+element-copy-out-enters : tie.Need-element-copy-out-enters Inv-loop μ-loop
+element-copy-out-enters c = search needs
 
-mul-b-2 : tie.Need-mul-b-2 Inv-loop μ-loop
-mul-b-2 c = search needs
+mul-enters-2 : tie.Need-mul-enters-2 Inv-loop μ-loop
+mul-enters-2 c = search needs
 
-element-copy-out-b-2 : tie.Need-element-copy-out-b-2 Inv-loop μ-loop
-element-copy-out-b-2 c = search needs
+element-copy-out-enters-2 : tie.Need-element-copy-out-enters-2 Inv-loop μ-loop
+element-copy-out-enters-2 c = search needs
 
-mul-b-3 : tie.Need-mul-b-3 Inv-loop μ-loop
-mul-b-3 c = search needs
+mul-enters-3 : tie.Need-mul-enters-3 Inv-loop μ-loop
+mul-enters-3 c = search needs
 
-element-copy-out-b-3 : tie.Need-element-copy-out-b-3 Inv-loop μ-loop
-element-copy-out-b-3 c = search needs
+element-copy-out-enters-3 : tie.Need-element-copy-out-enters-3 Inv-loop μ-loop
+element-copy-out-enters-3 c = search needs
 
 with-bit-requires : tie.Need-with-bit-requires Inv-loop μ-loop
 with-bit-requires c κs = (search needs, rw (c .before .before .before .before .loop .inv .1) (maskOf-lt _ _))
@@ -69,12 +69,12 @@ let-in-spec =
     loop-holds
     cast-asked
     shr-asked
-    mul-b
-    element-copy-out-b
-    mul-b-2
-    element-copy-out-b-2
-    mul-b-3
-    element-copy-out-b-3
+    mul-enters
+    element-copy-out-enters
+    mul-enters-2
+    element-copy-out-enters-2
+    mul-enters-3
+    element-copy-out-enters-3
     with-bit-requires
     add-i
     loop-less

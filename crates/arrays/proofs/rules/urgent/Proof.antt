@@ -21,11 +21,11 @@ element-copy-out-least c = search needs
 loop-holds : tie.Need-loop-holds Inv-loop μ-loop
 loop-holds c = (search needs, urgent-none _ _, refl)
 
-mul-l : tie.Need-mul-l Inv-loop μ-loop
-mul-l c = search needs
+mul-time : tie.Need-mul-time Inv-loop μ-loop
+mul-time c = search needs
 
-element-copy-out-l : tie.Need-element-copy-out-l Inv-loop μ-loop
-element-copy-out-l c = search needs
+element-copy-out-time : tie.Need-element-copy-out-time Inv-loop μ-loop
+element-copy-out-time c = search needs
 
 mul-better : tie.Need-mul-better Inv-loop μ-loop
 mul-better c = search needs
@@ -53,8 +53,9 @@ loop-less c = search needs
 
 loop-again : tie.Need-loop-again Inv-loop μ-loop
 loop-again c =
-    let l = c .before .before .before .before .before .loop in
-    let a = c .before .before .before .before .before .before .before .args in (
+    let turn = c .before .before .before .before .before in
+    let l = turn .loop in
+    let a = turn .before .before .args in (
       search needs,
       urgent-more _ _ _ _ _ _ (l .inv .1) (l .inv .2) (c .before .either .ensures),
       urgent-time (a .unfinished .now) (a .left .now) (l .i) (l .best) (l .least) _ _ (l .inv .2) (c .before .either .ensures) (c .either2 .ensures),
@@ -74,8 +75,8 @@ urgent-spec =
     μ-loop
     element-copy-out-least
     loop-holds
-    mul-l
-    element-copy-out-l
+    mul-time
+    element-copy-out-time
     mul-better
     element-copy-out-better
     cast-either

@@ -1,4 +1,4 @@
--- `lent::advance` meets its contract: a walk of its MIR, by hand. The borrow is opened, the record is copied out and passed to `tick` by value, the record that `tick` returns is written behind the reference, and the borrow is closed at it.
+-- `lent::tick` meets its contract: a walk of its MIR, by hand. The borrow is opened, the record is copied out and passed to `tick` by value, the record that `tick` returns is written behind the reference, and the borrow is closed at it.
 -- All that the proof knows of `tick` is that it meets its contract. The records' machine values stay the laws' own (`vals`), so that no line has a field's name or number.
 -- Assumes nothing.
 use mathlib.Core.Path.{refl, ap}
@@ -44,20 +44,20 @@ use Rattle.dispatch.specs.Tick.{Ticks}
 use Rattle.records.specs.declared.Dispatcher.{Dispatcher}
 use Rattle.dispatch.specs.declared.Answer.{Answer}
 use Rattle.dispatch.specs.declared.Ticked.{Ticked}
-use Rattle.dispatch.proofs.Dispatcher as T
-use Rattle.dispatch.proofs.Dispatcher.Laws as T′
+use Rattle.records.proofs.Dispatcher as T
+use Rattle.records.proofs.Dispatcher.Laws as T′
 use Rattle.dispatch.proofs.Answer as A′
 use Rattle.dispatch.proofs.Answer.Laws as A″
 use Rattle.dispatch.proofs.Ticked as S
 use Rattle.dispatch.proofs.Ticked.Laws as S′
-use Rattle.dispatch.proofs.Dispatcher.tick as tick
-use Rattle.dispatch.proofs.Dispatcher.tick.Symbol as tick-def
-use Rattle.dispatch.proofs.Dispatcher.tick.Symbol.{name as #tick}
-use Rattle.dispatch.proofs.Dispatcher.tick.Met as tick-thm
-use Rattle.lent.proofs.advance.Key.{name as #lent·advance}
-use Rattle.lent.proofs.advance as f
-use Rattle.lent.proofs.advance.Statement as stated
-use Rattle.lent.proofs.advance.Code as code
+use Rattle.dispatch.proofs.tick as tick
+use Rattle.dispatch.proofs.tick.Symbol as tick-def
+use Rattle.dispatch.proofs.tick.Symbol.{name as #tick}
+use Rattle.dispatch.proofs.tick.Met as tick-thm
+use Rattle.lent.proofs.tick.Key.{name as #lent·tick}
+use Rattle.lent.proofs.tick as f
+use Rattle.lent.proofs.tick.Statement as stated
+use Rattle.lent.proofs.tick.Code as code
 
 abbrev Arg : Type 0
 Arg = RefT Dispatcher × (ℕ × (Bool × Unit {0}))
@@ -144,20 +144,20 @@ module _ {M : Type 1} (𝓤 : URA M) (H : Heap 𝓤) (A : Atoms 𝓤) (W : Given
         keep ! (0 ∷ 1 ∷ 2 ∷ []) $ by ! (exits t e (told t v is))))))))))))))
 
 module _ {M : Type 1} (𝓤 : URA M) (H : Heap 𝓤) (A : Atoms 𝓤) (W : Given 𝓤 H A) (at-mem : Memory → SProp 𝓤) (run : Routine → Fun 𝓤) where
-  advance-walks : (C : Calls 𝓤 H) (Λ : Loops 𝓤 H) → FmC 𝓤 H (W .laws) C → Triple 𝓤 (C #tick) (Tick 𝓤 H A at-mem run) → Walks 𝓤 H A f.ended stayed (WpFn 𝓤 H C Λ code.function) (f.clauses 𝓤 H A at-mem run)
-  advance-walks C Λ fm known = walked 𝓤 H A f.ended stayed (f.clauses 𝓤 H A at-mem run) (WpFn 𝓤 H C Λ code.function) (λ κs. (ptr-vals, (uint-vals w32, (bool-vals, tt)))) (λ κs. (mut-tells (named 0) (κs .0) T.the-row, (uint-tells w32, (bool-tells, tt))))
+  tick-walks : (C : Calls 𝓤 H) (Λ : Loops 𝓤 H) → FmC 𝓤 H (W .laws) C → Triple 𝓤 (C #tick) (Tick 𝓤 H A at-mem run) → Walks 𝓤 H A f.ended stayed (WpFn 𝓤 H C Λ code.function) (f.clauses 𝓤 H A at-mem run)
+  tick-walks C Λ fm known = walked 𝓤 H A f.ended stayed (f.clauses 𝓤 H A at-mem run) (WpFn 𝓤 H C Λ code.function) (λ κs. (ptr-vals, (uint-vals w32, (bool-vals, tt)))) (λ κs. (mut-tells (named 0) (κs .0) T.the-row, (uint-tells w32, (bool-tells, tt))))
       (λ κs qs bounds a _ are. via 𝓤 _ (fst∗ 𝓤 _ (emp 𝓤)) (walk 𝓤 H A W at-mem run (κs .0) (qs .0) (a .0 .ptr .0) (a .0 .ptr .1) (a .0 .name) (a .0 .now) (a .1 .0) (are .1 .0 .1) (a .1 .1 .0) C Λ fm known))
 
-advance-meets : {M : Type 1} (𝓤 : URA M) (H : Heap 𝓤) (A : Atoms 𝓤) (W : Given 𝓤 H A) (at-mem : Memory → SProp 𝓤) (run : Routine → Fun 𝓤) (𝓣 : Tables 𝓤 H) → Triple 𝓤 (𝓣 .C #tick) (Tick 𝓤 H A at-mem run)
+tick-meets : {M : Type 1} (𝓤 : URA M) (H : Heap 𝓤) (A : Atoms 𝓤) (W : Given 𝓤 H A) (at-mem : Memory → SProp 𝓤) (run : Routine → Fun 𝓤) (𝓣 : Tables 𝓤 H) → Triple 𝓤 (𝓣 .C #tick) (Tick 𝓤 H A at-mem run)
     → Meets 𝓤 H A f.signature (WpFn 𝓤 H (𝓣 .C) (𝓣 .Λ) code.function) (f.spec 𝓤 H A at-mem run)
-advance-meets 𝓤 H A W at-mem run 𝓣 known =
+tick-meets 𝓤 H A W at-mem run 𝓣 known =
     walk-meets 𝓤 H A f.ended stayed W (goes-ref 𝓤 H A W 1 0 tt (plain (λ _. T.the-row)), (goes-none 𝓤 H A W 1 (λ _. u32) yes (λ κs x f. refl), (goes-none 𝓤 H A W 1 (λ _. bool) yes (λ κs x f. refl), tt))) (f.clauses 𝓤 H A at-mem run)
-    (WpFn 𝓤 H (𝓣 .C) (𝓣 .Λ) code.function) (WpFn-mono 𝓤 H (W .laws) 𝓣 code.function) (advance-walks 𝓤 H A W at-mem run (𝓣 .C) (𝓣 .Λ) (fmOf 𝓤 H (W .laws) 𝓣) known)
+    (WpFn 𝓤 H (𝓣 .C) (𝓣 .Λ) code.function) (WpFn-mono 𝓤 H (W .laws) 𝓣 code.function) (tick-walks 𝓤 H A W at-mem run (𝓣 .C) (𝓣 .Λ) (fmOf 𝓤 H (W .laws) 𝓣) known)
 
-pub advance-spec : {M : Type 1} → stated.statement M
+pub tick-spec : {M : Type 1} → stated.statement M
 unfolding code.routine tablesOf
-advance-spec 𝓤 H 𝓜 𝓖 𝓡 =
+tick-spec 𝓤 H 𝓜 𝓖 𝓡 =
     entered 𝓤 H (tripleOf 𝓤 H (𝓖 .A) f.signature (f.spec 𝓤 H (𝓖 .A) (𝓜 .mem) (𝓡 .run)))
-    (tables 𝓤 H 𝓜 𝓡 code.env .C) (tables 𝓤 H 𝓜 𝓡 code.env .Λ) #lent·advance code.function (code.unfolded 𝓤 H 𝓜 𝓡)
-    (advance-meets 𝓤 H (𝓖 .A) (givenOf 𝓤 H 𝓜 𝓖) (𝓜 .mem) (𝓡 .run) (tablesOf 𝓤 H 𝓜 (tables 𝓤 H 𝓜 𝓡 code.env))
-    (cited 𝓤 H (Tick 𝓤 H (𝓖 .A) (𝓜 .mem) (𝓡 .run)) 𝓜 𝓡 code.env #tick tick-def.routine code.calls-dispatch·Dispatcher·tick (tick-thm.met 𝓤 H 𝓜 𝓖 𝓡)))
+    (tables 𝓤 H 𝓜 𝓡 code.env .C) (tables 𝓤 H 𝓜 𝓡 code.env .Λ) #lent·tick code.function (code.unfolded 𝓤 H 𝓜 𝓡)
+    (tick-meets 𝓤 H (𝓖 .A) (givenOf 𝓤 H 𝓜 𝓖) (𝓜 .mem) (𝓡 .run) (tablesOf 𝓤 H 𝓜 (tables 𝓤 H 𝓜 𝓡 code.env))
+    (cited 𝓤 H (Tick 𝓤 H (𝓖 .A) (𝓜 .mem) (𝓡 .run)) 𝓜 𝓡 code.env #tick tick-def.routine code.calls-dispatch·tick (tick-thm.met 𝓤 H 𝓜 𝓖 𝓡)))

@@ -1,5 +1,5 @@
--- `lent::advanced` meets its contract: a walk of its MIR, by hand. The record is copied into a local, which is lent to `advance` for a lifetime that is made for the call, and comes back at the last value that `advance` says.
--- All that the proof knows of `advance` is that it meets its contract. No line has a field's name or number.
+-- `lent::ticked` meets its contract: a walk of its MIR, by hand. The record is copied into a local, which is lent to `tick` for a lifetime that is made for the call, and comes back at the last value that `tick` says.
+-- All that the proof knows of `tick` is that it meets its contract. No line has a field's name or number.
 -- Assumes nothing.
 use mathlib.Core.Path.{refl, ap}
 use Prim.Native.Nat.{ℕ, _<_, _^_}
@@ -44,27 +44,27 @@ use Rattle.dispatch.specs.Tick.{Ticks}
 use Rattle.records.specs.declared.Dispatcher.{Dispatcher}
 use Rattle.dispatch.specs.declared.Answer.{Answer}
 use Rattle.dispatch.specs.declared.Ticked.{Ticked}
-use Rattle.dispatch.proofs.Dispatcher as T
-use Rattle.dispatch.proofs.Dispatcher.Laws as T′
+use Rattle.records.proofs.Dispatcher as T
+use Rattle.records.proofs.Dispatcher.Laws as T′
 use Rattle.dispatch.proofs.Answer as A′
 use Rattle.dispatch.proofs.Answer.Laws as A″
 use Rattle.dispatch.proofs.Ticked as S
 use Rattle.dispatch.proofs.Ticked.Laws as S′
-use Rattle.lent.proofs.advance as g
-use Rattle.lent.proofs.advance.Symbol as g-def
-use Rattle.lent.proofs.advance.Symbol.{name as #lent·advance}
-use Rattle.lent.proofs.advance.Met as g-thm
-use Rattle.lent.proofs.advanced.Key.{name as #lent·advanced}
-use Rattle.lent.proofs.advanced as f
-use Rattle.lent.proofs.advanced.Statement as stated
-use Rattle.lent.proofs.advanced.Code as code
+use Rattle.lent.proofs.tick as g
+use Rattle.lent.proofs.tick.Symbol as g-def
+use Rattle.lent.proofs.tick.Symbol.{name as #lent·tick}
+use Rattle.lent.proofs.tick.Met as g-thm
+use Rattle.lent.proofs.ticked.Key.{name as #lent·ticked}
+use Rattle.lent.proofs.ticked as f
+use Rattle.lent.proofs.ticked.Statement as stated
+use Rattle.lent.proofs.ticked.Code as code
 
 abbrev stayed : Stays (f.ended .signature .params) (f.ended .kept)
 stayed = (stay-none (λ _. T.the-row) yes, (stay-none (λ _. u32) yes, (stay-none (λ _. bool) yes, tt)))
 
 -- the contract that the proof cites
-abbrev Advance : {M : Type 1} (𝓤 : URA M) (H : Heap 𝓤) (A : Atoms 𝓤) (at-mem : Memory → SProp 𝓤) (run : Routine → Fun 𝓤) → Contract 𝓤
-Advance 𝓤 H A at-mem run = tripleOf 𝓤 H A g.signature (g.spec 𝓤 H A at-mem run)
+abbrev Tick : {M : Type 1} (𝓤 : URA M) (H : Heap 𝓤) (A : Atoms 𝓤) (at-mem : Memory → SProp 𝓤) (run : Routine → Fun 𝓤) → Contract 𝓤
+Tick 𝓤 H A at-mem run = tripleOf 𝓤 H A g.signature (g.spec 𝓤 H A at-mem run)
 
 -- the records' machine values
 abbrev val : Dispatcher → Val
@@ -101,14 +101,14 @@ module _ {M : Type 1} (𝓤 : URA M) (H : Heap 𝓤) (A : Atoms 𝓤) (W : Given
       nothing ! $ owned ! bool (Is bool) (bool-makes 𝓤 H A W) y _ refl $ fjoin ! $ owned ! u32 (Is u32) (uint-makes 𝓤 H A W w32) n _ (refl, fits) $ fjoin ! $
       owned ! T.the-row (Is T.the-row) (LL.makes T.the-type T′.the-plain 𝓤 H A) h _ was $ fjoin ! $ nothing ! $ done !
 
-  -- what `advance`'s triple binds outside: the local at l, lent for the lifetime ν under the name γ
+  -- what `tick`'s triple binds outside: the local at l, lent for the lifetime ν under the name γ
   abbrev x : ℕ → GName → RefT Dispatcher
   x l γ = record { ptr = (l, 0); name = γ; now = h }
 
-  abbrev to : ℕ → ℕ → GName → Advance 𝓤 H A at-mem run .Ghost
+  abbrev to : ℕ → ℕ → GName → Tick 𝓤 H A at-mem run .Ghost
   to ν l γ = (((ν ∷ [], tt), (fullShare, tt), tt, (x l γ, (n, (y, tt))), (vptr l 0 ∷ [], (vint w32 n ∷ [], (vbool y ∷ [], tt)))), tt)
 
-  asks : (ν l : ℕ) (γ : GName) → ent 𝓤 (sep 𝓤 (A .lft (ν ∷ []) fullShare) (sem 𝓤 H A (MutRef (named 0) (ν ∷ []) T.the-row .own (x l γ) (vptr l 0 ∷ [])))) (Advance 𝓤 H A at-mem run .pre (to ν l γ))
+  asks : (ν l : ℕ) (γ : GName) → ent 𝓤 (sep 𝓤 (A .lft (ν ∷ []) fullShare) (sem 𝓤 H A (MutRef (named 0) (ν ∷ []) T.the-row .own (x l γ) (vptr l 0 ∷ [])))) (Tick 𝓤 H A at-mem run .pre (to ν l γ))
   asks ν l γ =
       qed W (‵ (flft (ν ∷ []) fullShare) ∷ ‵ (MutRef (named 0) (ν ∷ []) T.the-row .own (x l γ) (vptr l 0 ∷ [])) ∷ []) ∵ nothing ! $ move ! (1 ∷ 0 ∷ []) $ join ! $ nothing ! $ move ! (2 ∷ []) $
       nothing ! $ owned ! bool (Is bool) (bool-makes 𝓤 H A W) y _ refl $ fjoin ! $ owned ! u32 (Is u32) (uint-makes 𝓤 H A W w32) n _ (refl, fits) $ fjoin ! $ move ! (1 ∷ 0 ∷ []) $ fjoin ! $
@@ -117,14 +117,14 @@ module _ {M : Type 1} (𝓤 : URA M) (H : Heap 𝓤) (A : Atoms 𝓤) (W : Given
   abbrev Said : Dispatcher → Answer → Type 0
   Said h′ a = Ticks h n y h′ a
 
-  -- the answer is put together of the record that came back and what `advance` answered
+  -- the answer is put together of the record that came back and what `tick` answered
   abbrev pair : Dispatcher → Answer → Ticked
   pair h′ a = record { next = h′; answer = a }
 
   whole : (h′ : Dispatcher) (a : Answer) (v : Val) → Is T.the-row h′ (val h′ ∷ []) → Is A′.the-row a (v ∷ []) → Is S.the-row (pair h′ a) (all (pair h′ a) ∷ [])
   whole h′ a v put is = LL.owes S.the-type S′.the-laws (pair h′ a) (put, (LL.owes A′.the-type A″.the-laws a (LL.owed A′.the-type A″.the-laws a _ is), tt))
 
-  module _ (C : Calls 𝓤 H) (Λ : Loops 𝓤 H) (fm : FmC 𝓤 H (W .laws) C) (known : Triple 𝓤 (C #lent·advance) (Advance 𝓤 H A at-mem run)) where
+  module _ (C : Calls 𝓤 H) (Λ : Loops 𝓤 H) (fm : FmC 𝓤 H (W .laws) C) (known : Triple 𝓤 (C #lent·tick) (Tick 𝓤 H A at-mem run)) where
     walk : ent 𝓤 (onEntry 𝓤 H A f.signature tt tt (h, (n, (y, tt))) at) (WpFn 𝓤 H C Λ code.function (val h ∷ vint w32 n ∷ vbool y ∷ []) Post)
     walk =
         qed W (raw (onEntry 𝓤 H A f.signature tt tt (h, (n, (y, tt))) at) ∷ []) ∵ drop ! $ enter ! C Λ code.function (val h ∷ vint w32 n ∷ vbool y ∷ []) _ $
@@ -136,9 +136,9 @@ module _ {M : Type 1} (𝓤 : URA M) (H : Heap 𝓤) (A : Atoms 𝓤) (W : Given
         -- the local is lent for a lifetime ν of the call
         move ! (6 ∷ []) $ use1 W (‵ (mem T.the-row .lies h l₄ 0)) (lays 𝓤 H A W h l₄ 0 was) $ lft-new ! tt (λ ν. move ! (1 ∷ []) $
         use1 W (later (some (λ (γ : GName). ‵ (MutRef (named 0) (ν ∷ []) T.the-row .own (x l₄ γ) (vptr l₄ 0 ∷ [])) ⊛ ‵ (flent (ν ∷ []) (Body (mem T.the-row) l₄ 0 γ))))) (lends-ref 𝓤 H A W T.the-row (named 0) (ν ∷ []) h l₄ 0) $ await ! tt $ pick ! (λ γ. split ! $
-        move ! (2 ∷ 0 ∷ []) $ use2 W (raw (Advance 𝓤 H A at-mem run .pre (to ν l₄ γ))) (asks ν l₄ γ) $
-        -- [what `advance` asks; the lender's part; _7; …; _6; …; _5; …; what _4 dies by; flag; …; mask; …; r; …; room for _0; …]
-        calls-at ! fm (Advance 𝓤 H A at-mem run) known (to ν l₄ γ) (and-then ! (load ! (from ! (stop !)) (look ! 4 refl)) (and-then ! (load ! (from ! (stop !)) (look ! 11 refl)) (and-then ! (load ! (from ! (stop !)) (look ! 9 refl)) (no-more !)))) (λ v.
+        move ! (2 ∷ 0 ∷ []) $ use2 W (raw (Tick 𝓤 H A at-mem run .pre (to ν l₄ γ))) (asks ν l₄ γ) $
+        -- [what `tick` asks; the lender's part; _7; …; _6; …; _5; …; what _4 dies by; flag; …; mask; …; r; …; room for _0; …]
+        calls-at ! fm (Tick 𝓤 H A at-mem run) known (to ν l₄ γ) (and-then ! (load ! (from ! (stop !)) (look ! 4 refl)) (and-then ! (load ! (from ! (stop !)) (look ! 11 refl)) (and-then ! (load ! (from ! (stop !)) (look ! 9 refl)) (no-more !)))) (λ v.
         use1 W (later (some (λ (a : Answer). ((‵ (flft (ν ∷ []) fullShare) ⊛ ‵ ftrue) ⊛ ‵ (A′.the-row .own a (v ∷ []))) ⊛ raw (ensured 𝓤 H A g.ended (g.clauses 𝓤 H A at-mem run) (ν ∷ [], tt) (x l₄ γ, (n, (y, tt))) tt a)))) (id⊢ 𝓤 _) $ await ! tt $ pick ! (λ a.
         split ! $ move ! (1 ∷ []) $ use1 W (some (λ (ws : Dispatcher × (Unit {0} × (Unit {0} × Unit {0}))). ‵ (lasts g.ended (ν ∷ [], tt) (x l₄ γ, (n, (y, tt))) ws) ⊛ raw (fact 𝓤 (Said (ws .0) a)))) (id⊢ 𝓤 _) $ pick ! (λ ws.
         split ! $ move ! (1 ∷ []) $ heard ! (Said (ws .0) a) (λ e. fsplit ! $ move ! (2 ∷ []) $ split ! $ move ! (1 ∷ []) $
@@ -157,20 +157,20 @@ module _ {M : Type 1} (𝓤 : URA M) (H : Heap 𝓤) (A : Atoms 𝓤) (W : Given
         move ! (6 ∷ 7 ∷ []) $ free1 ! $ move ! (4 ∷ 5 ∷ []) $ free1 ! $ move ! (2 ∷ 3 ∷ []) $ free1 ! $ free0 ! $ keep ! [] $ by ! (exits (pair (ws .0) a) e (whole (ws .0) a v put is))))))))))))))))))
 
 module _ {M : Type 1} (𝓤 : URA M) (H : Heap 𝓤) (A : Atoms 𝓤) (W : Given 𝓤 H A) (at-mem : Memory → SProp 𝓤) (run : Routine → Fun 𝓤) where
-  advanced-walks : (C : Calls 𝓤 H) (Λ : Loops 𝓤 H) → FmC 𝓤 H (W .laws) C → Triple 𝓤 (C #lent·advance) (Advance 𝓤 H A at-mem run) → Walks 𝓤 H A f.ended stayed (WpFn 𝓤 H C Λ code.function) (f.clauses 𝓤 H A at-mem run)
-  advanced-walks C Λ fm known = walked 𝓤 H A f.ended stayed (f.clauses 𝓤 H A at-mem run) (WpFn 𝓤 H C Λ code.function) (λ κs. (LL.vals T.the-type T′.the-laws, (uint-vals w32, (bool-vals, tt)))) (λ κs. (LL.tells T.the-type T′.the-laws, (uint-tells w32, (bool-tells, tt))))
+  ticked-walks : (C : Calls 𝓤 H) (Λ : Loops 𝓤 H) → FmC 𝓤 H (W .laws) C → Triple 𝓤 (C #lent·tick) (Tick 𝓤 H A at-mem run) → Walks 𝓤 H A f.ended stayed (WpFn 𝓤 H C Λ code.function) (f.clauses 𝓤 H A at-mem run)
+  ticked-walks C Λ fm known = walked 𝓤 H A f.ended stayed (f.clauses 𝓤 H A at-mem run) (WpFn 𝓤 H C Λ code.function) (λ κs. (LL.vals T.the-type T′.the-laws, (uint-vals w32, (bool-vals, tt)))) (λ κs. (LL.tells T.the-type T′.the-laws, (uint-tells w32, (bool-tells, tt))))
       (λ κs qs bounds a _ are. via 𝓤 _ (fst∗ 𝓤 _ (emp 𝓤)) (walk 𝓤 H A W at-mem run (a .0) (are .0) (a .1 .0) (are .1 .0 .1) (a .1 .1 .0) C Λ fm known))
 
-advanced-meets : {M : Type 1} (𝓤 : URA M) (H : Heap 𝓤) (A : Atoms 𝓤) (W : Given 𝓤 H A) (at-mem : Memory → SProp 𝓤) (run : Routine → Fun 𝓤) (𝓣 : Tables 𝓤 H) → Triple 𝓤 (𝓣 .C #lent·advance) (Advance 𝓤 H A at-mem run)
+ticked-meets : {M : Type 1} (𝓤 : URA M) (H : Heap 𝓤) (A : Atoms 𝓤) (W : Given 𝓤 H A) (at-mem : Memory → SProp 𝓤) (run : Routine → Fun 𝓤) (𝓣 : Tables 𝓤 H) → Triple 𝓤 (𝓣 .C #lent·tick) (Tick 𝓤 H A at-mem run)
     → Meets 𝓤 H A f.signature (WpFn 𝓤 H (𝓣 .C) (𝓣 .Λ) code.function) (f.spec 𝓤 H A at-mem run)
-advanced-meets 𝓤 H A W at-mem run 𝓣 known =
+ticked-meets 𝓤 H A W at-mem run 𝓣 known =
     walk-meets 𝓤 H A f.ended stayed W (goes-none 𝓤 H A W 0 (λ _. T.the-row) yes (λ κs x f. refl), (goes-none 𝓤 H A W 0 (λ _. u32) yes (λ κs x f. refl), (goes-none 𝓤 H A W 0 (λ _. bool) yes (λ κs x f. refl), tt))) (f.clauses 𝓤 H A at-mem run)
-    (WpFn 𝓤 H (𝓣 .C) (𝓣 .Λ) code.function) (WpFn-mono 𝓤 H (W .laws) 𝓣 code.function) (advanced-walks 𝓤 H A W at-mem run (𝓣 .C) (𝓣 .Λ) (fmOf 𝓤 H (W .laws) 𝓣) known)
+    (WpFn 𝓤 H (𝓣 .C) (𝓣 .Λ) code.function) (WpFn-mono 𝓤 H (W .laws) 𝓣 code.function) (ticked-walks 𝓤 H A W at-mem run (𝓣 .C) (𝓣 .Λ) (fmOf 𝓤 H (W .laws) 𝓣) known)
 
-pub advanced-spec : {M : Type 1} → stated.statement M
+pub ticked-spec : {M : Type 1} → stated.statement M
 unfolding code.routine tablesOf
-advanced-spec 𝓤 H 𝓜 𝓖 𝓡 =
+ticked-spec 𝓤 H 𝓜 𝓖 𝓡 =
     entered 𝓤 H (tripleOf 𝓤 H (𝓖 .A) f.signature (f.spec 𝓤 H (𝓖 .A) (𝓜 .mem) (𝓡 .run)))
-    (tables 𝓤 H 𝓜 𝓡 code.env .C) (tables 𝓤 H 𝓜 𝓡 code.env .Λ) #lent·advanced code.function (code.unfolded 𝓤 H 𝓜 𝓡)
-    (advanced-meets 𝓤 H (𝓖 .A) (givenOf 𝓤 H 𝓜 𝓖) (𝓜 .mem) (𝓡 .run) (tablesOf 𝓤 H 𝓜 (tables 𝓤 H 𝓜 𝓡 code.env))
-    (cited 𝓤 H (Advance 𝓤 H (𝓖 .A) (𝓜 .mem) (𝓡 .run)) 𝓜 𝓡 code.env #lent·advance g-def.routine code.calls-lent·advance (g-thm.met 𝓤 H 𝓜 𝓖 𝓡)))
+    (tables 𝓤 H 𝓜 𝓡 code.env .C) (tables 𝓤 H 𝓜 𝓡 code.env .Λ) #lent·ticked code.function (code.unfolded 𝓤 H 𝓜 𝓡)
+    (ticked-meets 𝓤 H (𝓖 .A) (givenOf 𝓤 H 𝓜 𝓖) (𝓜 .mem) (𝓡 .run) (tablesOf 𝓤 H 𝓜 (tables 𝓤 H 𝓜 𝓡 code.env))
+    (cited 𝓤 H (Tick 𝓤 H (𝓖 .A) (𝓜 .mem) (𝓡 .run)) 𝓜 𝓡 code.env #lent·tick g-def.routine code.calls-lent·tick (g-thm.met 𝓤 H 𝓜 𝓖 𝓡)))

@@ -1,0 +1,43 @@
+-- A record in range, whose table is kept, in another state that the rules keep: what the steps' laws ask of its table stands here.
+-- Assumes nothing.
+use mathlib.Core.Path.{_≡_, ap, _∙_}
+use mathlib.Core.Bool.{true}
+use Prim.Native.Nat.{ℕ, _≤_, _<_}
+use lib.ListN.{getD}
+use Rattle.finite.specs.Finite.{Below}
+use Rattle.model.specs.Phase.{Choice}
+use Rattle.model.specs.Tasks.{Tasks}
+use Rattle.promise.specs.Rules.{State}
+use Rattle.promise.specs.laws.Kept.{ranged-of}
+use Rattle.promise.specs.laws.Range.{Range}
+use Rattle.promise.specs.laws.Remaining.{Proper, Ranged}
+use Rattle.records.specs.Ranges.{WithCounts, inRange}
+use Rattle.records.specs.Record.{countsIn, stateIn, tasksIn}
+use Rattle.records.specs.declared.Dispatcher.{Dispatcher}
+use Rattle.records.specs.laws.Fields.{Fields}
+use Rattle.records.specs.laws.Recorded.{read-as, record-in-range}
+use Rattle.dispatch.specs.Steps.{inState}
+
+-- what promise's theory asks of a table's phases
+pub table-ranged : (S : Tasks) (x : Choice) → WithCounts S x → Below (S .n) (Ranged S x)
+table-ranged S x table =
+    ranged-of S x (λ i l. table .table .task i l .phases-least) (λ i j l k. table .counts .count-least i j l k) (λ i j l k. table .counts .count-most i j l k)
+
+module _ (d : Dispatcher) (f : Fields d) where
+  pub ranged : Below (d .tasks) (Ranged (tasksIn d) (countsIn d))
+  ranged = table-ranged (tasksIn d) (countsIn d) (f .table)
+
+  pub few : d .tasks ≤ 32
+  few = f .table .table .tasks
+
+  pub few-phases : (i : ℕ) → i < d .tasks → getD (d .phases) i 0 ≤ 8
+  few-phases i l = f .table .table .task i l .phases-most
+
+  module _ (s : State) (range : Range (tasksIn d) s) (good : Proper (tasksIn d) (countsIn d) s) where
+    -- in another state that the rules keep it is in range
+    pub still-in-range : (r : Dispatcher) → r ≡ inState d s → inRange r ≡ true
+    still-in-range r e = ap inRange e ∙ record-in-range (tasksIn d) (countsIn d) (f .table) s range good
+
+    -- and read as its table and that state
+    pub reads : {A : Type 0} (g : Tasks → Choice → State → A) → g (tasksIn (inState d s)) (countsIn (inState d s)) (stateIn (inState d s)) ≡ g (tasksIn d) (countsIn d) s
+    reads g = read-as (tasksIn d) (countsIn d) (f .table) s range g
