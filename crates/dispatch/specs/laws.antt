@@ -1,5 +1,6 @@
 -- What is proved of the definitions beside this folder.
 pub mod Updates
+pub mod Keeps
 pub mod Reads
 pub mod Admitting
 pub mod Picking

@@ -10,13 +10,12 @@ use Rattle.arrays.specs.laws.Masks.{bit-maskOf}
 use Rattle.finite.specs.laws.Lists.{filled-more}
 use Rattle.finite.specs.laws.Tests.{cond-false, cond-true}
 use Rattle.promise.specs.Rules.{State, admit, letsIn}
-use Rattle.promise.specs.laws.Entering.{admit-proper}
-use Rattle.promise.specs.laws.Range.{admit-range}
 use Rattle.records.specs.Record.{countsIn, stateIn, tasksIn}
 use Rattle.records.specs.declared.Dispatcher.{Dispatcher}
 use Rattle.records.specs.laws.Fields.{Fields, Long}
 use Rattle.dispatch.specs.Steps.{Admits, inState}
-use Rattle.dispatch.specs.laws.Reads.{ranged, still-in-range}
+use Rattle.dispatch.specs.laws.Keeps.{admit-keeps}
+use Rattle.dispatch.specs.laws.Reads.{own-keeps, ranged, still-in-range}
 use Rattle.dispatch.specs.laws.Updates.{filled-kept, filling, filling-all, in-state, jobs-alike, own-flag, withJobs}
 
 -- the state after admission
@@ -74,7 +73,5 @@ admits-by d long f asked m i r scan last e =
     record {
       moved = moved;
       answered = scan;
-      kept =
-          still-in-range d f (admittedState d asked) (admit-range (tasksIn d) (countsIn d) (ranged d f) (stateIn d) (f .state) (bit asked))
-          (admit-proper (tasksIn d) (countsIn d) (ranged d f) (stateIn d) (f .jobs) (bit asked)) r moved;
+      kept = still-in-range d f (admittedState d asked) (admit-keeps (tasksIn d) (countsIn d) (ranged d f) (stateIn d) (own-keeps d f) (bit asked)) r moved;
     }

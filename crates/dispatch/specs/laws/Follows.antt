@@ -1,6 +1,6 @@
 -- The four steps one after the other keep the promise `Ticks`: they are the rules' tick; and a tick has one outcome.
 -- Assumes nothing.
-use mathlib.Core.Path.{_≡_, refl, sym, ap, _∙_}
+use mathlib.Core.Path.{_≡_, sym, ap, _∙_}
 use mathlib.Core.Bool.{Bool, true, not, _&&_, and-eq-true-iff}
 use Prim.Native.Nat.{ℕ, _+_, _-_, _^_, _≤_, _<_}
 use native.Mathlib.Omega.{arith}
@@ -11,11 +11,6 @@ use Rattle.model.specs.Phase.{Choice}
 use Rattle.model.specs.Tasks.{Tasks}
 use Rattle.promise.specs.Rules.{Answer, State, admit, answerBy, elapse, letsIn, pick, workAt}
 use Rattle.promise.specs.laws.Answers.{answer-lets}
-use Rattle.promise.specs.laws.Entering.{admit-proper}
-use Rattle.promise.specs.laws.Range.{Range, admit-range, pick-range, work-range}
-use Rattle.promise.specs.laws.Remaining.{Proper}
-use Rattle.promise.specs.laws.Starting.{picks}
-use Rattle.promise.specs.laws.Working.{works-at}
 use Rattle.records.specs.Ranges.{inRange, usable}
 use Rattle.records.specs.Record.{countsIn, recordOf, requestOf, stateIn, tasksIn}
 use Rattle.records.specs.declared.Dispatcher.{Dispatcher}
@@ -25,7 +20,8 @@ use Rattle.dispatch.specs.Steps.{Admits, Elapses, Picks, Works, ranOf}
 use Rattle.dispatch.specs.Tick.{Ticks, answerFor, recordAfter, rulesAnswer}
 use Rattle.dispatch.specs.declared.Answer as code
 use Rattle.dispatch.specs.declared.steps.Ran.{Ran}
-use Rattle.dispatch.specs.laws.Reads.{ranged, reads}
+use Rattle.dispatch.specs.laws.Keeps.{Keeps, admit-keeps, pick-keeps, work-keeps}
+use Rattle.dispatch.specs.laws.Reads.{own-keeps, ranged, reads}
 
 -- the answer, made of what the steps answer
 abbrev pub answerWith : ℕ → ℕ → Ran → code.Answer
@@ -73,44 +69,35 @@ module _ (d : Dispatcher) (f : Fields d) (asked : ℕ) (flag : Bool) (a b c next
   abbrev s₃ : State
   s₃ = workAt S x flag s₂ (s₂ .run)
 
-  proper₁ : Proper S x s₁
-  proper₁ = admit-proper S x (ranged d f) s (f .jobs) (bit asked)
+  keeps₁ : Keeps S x s₁
+  keeps₁ = admit-keeps S x (ranged d f) s (own-keeps d f) (bit asked)
 
-  range₁ : Range S s₁
-  range₁ = admit-range S x (ranged d f) s (f .state) (bit asked)
+  keeps₂ : Keeps S x s₂
+  keeps₂ = pick-keeps S x (ranged d f) s₁ keeps₁
 
-  proper₂ : Proper S x s₂
-  proper₂ = picks S x (ranged d f) s₁ proper₁ .1
-
-  range₂ : Range S s₂
-  range₂ = pick-range S x (ranged d f) s₁ range₁ (s₁ .run)
-
-  proper₃ : Proper S x s₃
-  proper₃ = works-at S x (ranged d f) 0 flag s₂ proper₂ (s₂ .run) refl .1
-
-  range₃ : Range S s₃
-  range₃ = work-range S x (ranged d f) flag s₂ proper₂ range₂ (s₂ .run) refl
+  keeps₃ : Keeps S x s₃
+  keeps₃ = work-keeps S x (ranged d f) s₂ keeps₂ flag
 
   picked-is : b ≡ recordOf S x s₂
   picked-is =
       picked .moved ∙ ap (λ (r : Dispatcher). recordOf (tasksIn r) (countsIn r) (pick (tasksIn r) (countsIn r) (stateIn r))) (admits .moved) ∙
-      reads d f s₁ range₁ proper₁ (λ S x s. recordOf S x (pick S x s))
+      reads d f s₁ keeps₁ (λ S x s. recordOf S x (pick S x s))
 
   worked-is : c ≡ recordOf S x s₃
   worked-is =
       worked .moved ∙ ap (λ (r : Dispatcher). recordOf (tasksIn r) (countsIn r) (workAt (tasksIn r) (countsIn r) flag (stateIn r) (r .running))) picked-is ∙
-      reads d f s₂ range₂ proper₂ (λ S x s. recordOf S x (workAt S x flag s (s .run)))
+      reads d f s₂ keeps₂ (λ S x s. recordOf S x (workAt S x flag s (s .run)))
 
   next-is : next ≡ recordAfter d (requestOf asked flag)
   next-is =
       elapsed .moved ∙ ap (λ (r : Dispatcher). recordOf (tasksIn r) (countsIn r) (elapse (tasksIn r) (stateIn r))) worked-is ∙
-      reads d f s₃ range₃ proper₃ (λ S x s. recordOf S x (elapse S s))
+      reads d f s₃ keeps₃ (λ S x s. recordOf S x (elapse S s))
 
   ran-is : ran ≡ ranOf (rulesAnswer d (requestOf asked flag))
   ran-is =
       worked .answered (letsIn S s (bit asked)) ∙
       ap (λ (r : Dispatcher). ranOf (answerBy (tasksIn r) (countsIn r) (letsIn S s (bit asked)) flag (stateIn r) (r .running))) picked-is ∙
-      reads d f s₂ range₂ proper₂ (λ S′ x s′. ranOf (answerBy S′ x (letsIn S s (bit asked)) flag s′ (s′ .run)))
+      reads d f s₂ keeps₂ (λ S′ x s′. ranOf (answerBy S′ x (letsIn S s (bit asked)) flag s′ (s′ .run)))
 
   lets-is : (i : ℕ) → letsIn S s (bit asked) i ≡ rulesAnswer d (requestOf asked flag) .letIn i
   lets-is i = sym (answer-lets S x (letsIn S s (bit asked)) flag s₂ (s₂ .run) i)

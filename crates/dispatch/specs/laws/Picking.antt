@@ -11,9 +11,7 @@ use Rattle.arrays.specs.Rules.{goesBefore, urgentOf}
 use Rattle.model.specs.Phase.{Choice}
 use Rattle.model.specs.Tasks.{Tasks}
 use Rattle.promise.specs.Rules.{State, ahead, best, pick, pickAt, start, stated}
-use Rattle.promise.specs.laws.Range.{pick-range}
 use Rattle.promise.specs.laws.Remaining.{At}
-use Rattle.promise.specs.laws.Starting.{picks}
 use Rattle.promise.specs.laws.Urgent.{Best, best-is}
 use Rattle.records.specs.Ranges.{inRange}
 use Rattle.records.specs.Record.{countsIn, stateIn, tasksIn}
@@ -22,7 +20,8 @@ use Rattle.records.specs.laws.Fields.{Fields, Long}
 use Rattle.records.specs.laws.InRange.{range-fields}
 use Rattle.records.specs.laws.Views.{due-of-views, dueTicks}
 use Rattle.dispatch.specs.Steps.{Picks, inState}
-use Rattle.dispatch.specs.laws.Reads.{few, few-phases, ranged, still-in-range}
+use Rattle.dispatch.specs.laws.Keeps.{pick-keeps}
+use Rattle.dispatch.specs.laws.Reads.{few, few-phases, own-keeps, ranged, still-in-range}
 use Rattle.dispatch.specs.laws.Updates.{as-it-is, in-state, own-state, withRun}
 
 -- ---- the scan
@@ -70,7 +69,7 @@ module _ (d : Dispatcher) (long : Long d) (range : inRange d ≡ true) where
   picks-as r moved =
       record {
         moved = moved;
-        kept = still-in-range d f (pick S x s) (pick-range S x (ranged d f) s (f .state) (s .run)) (picks S x (ranged d f) s (f .jobs) .1) r moved;
+        kept = still-in-range d f (pick S x s) (pick-keeps S x (ranged d f) s (own-keeps d f)) r moved;
       }
 
   -- a piece runs

@@ -9,14 +9,14 @@ use Rattle.model.specs.Phase.{Choice}
 use Rattle.model.specs.Tasks.{Tasks}
 use Rattle.promise.specs.Rules.{State}
 use Rattle.promise.specs.laws.Kept.{ranged-of}
-use Rattle.promise.specs.laws.Range.{Range}
-use Rattle.promise.specs.laws.Remaining.{Proper, Ranged}
+use Rattle.promise.specs.laws.Remaining.{Ranged}
 use Rattle.records.specs.Ranges.{WithCounts, inRange}
 use Rattle.records.specs.Record.{countsIn, stateIn, tasksIn}
 use Rattle.records.specs.declared.Dispatcher.{Dispatcher}
 use Rattle.records.specs.laws.Fields.{Fields}
 use Rattle.records.specs.laws.Recorded.{read-as, record-in-range}
 use Rattle.dispatch.specs.Steps.{inState}
+use Rattle.dispatch.specs.laws.Keeps.{Keeps}
 
 -- what promise's theory asks of a table's phases
 pub table-ranged : (S : Tasks) (x : Choice) → WithCounts S x → Below (S .n) (Ranged S x)
@@ -33,11 +33,15 @@ module _ (d : Dispatcher) (f : Fields d) where
   pub few-phases : (i : ℕ) → i < d .tasks → getD (d .phases) i 0 ≤ 8
   few-phases i l = f .table .table .task i l .phases-most
 
-  module _ (s : State) (range : Range (tasksIn d) s) (good : Proper (tasksIn d) (countsIn d) s) where
+  -- its own state is one that the rules keep
+  pub own-keeps : Keeps (tasksIn d) (countsIn d) (stateIn d)
+  own-keeps = record { range = f .state; good = f .jobs }
+
+  module _ (s : State) (k : Keeps (tasksIn d) (countsIn d) s) where
     -- in another state that the rules keep it is in range
     pub still-in-range : (r : Dispatcher) → r ≡ inState d s → inRange r ≡ true
-    still-in-range r e = ap inRange e ∙ record-in-range (tasksIn d) (countsIn d) (f .table) s range good
+    still-in-range r e = ap inRange e ∙ record-in-range (tasksIn d) (countsIn d) (f .table) s (k .range) (k .good)
 
     -- and read as its table and that state
     pub reads : {A : Type 0} (g : Tasks → Choice → State → A) → g (tasksIn (inState d s)) (countsIn (inState d s)) (stateIn (inState d s)) ≡ g (tasksIn d) (countsIn d) s
-    reads g = read-as (tasksIn d) (countsIn d) (f .table) s range g
+    reads g = read-as (tasksIn d) (countsIn d) (f .table) s (k .range) g

@@ -20,9 +20,7 @@ use Rattle.model.specs.Phase.{Choice}
 use Rattle.model.specs.Tasks.{Tasks}
 use Rattle.model.specs.laws.Arrays.{phase-at}
 use Rattle.promise.specs.Rules.{Outcome, State, after, answerBy, done, endsOf, finishesOf, nextPhase, nextPiece, on, outcome, put, workAt}
-use Rattle.promise.specs.laws.Range.{work-range}
 use Rattle.promise.specs.laws.Remaining.{At, RunsAt, put-other, put-same}
-use Rattle.promise.specs.laws.Working.{works-at}
 use Rattle.records.specs.Ranges.{inRange}
 use Rattle.records.specs.Record.{countsIn, stateIn, tasksIn}
 use Rattle.records.specs.declared.Dispatcher.{Dispatcher}
@@ -30,7 +28,8 @@ use Rattle.records.specs.laws.Fields.{Fields, Long}
 use Rattle.records.specs.laws.InRange.{range-fields}
 use Rattle.dispatch.specs.Steps.{Works, inState, ranOf}
 use Rattle.dispatch.specs.declared.steps.Ran.{Ran}
-use Rattle.dispatch.specs.laws.Reads.{few, few-phases, ranged, still-in-range}
+use Rattle.dispatch.specs.laws.Keeps.{work-keeps}
+use Rattle.dispatch.specs.laws.Reads.{few, few-phases, own-keeps, ranged, still-in-range}
 use Rattle.dispatch.specs.laws.Updates.{as-it-is, in-state, jobs-alike, own-state, withJobs, withRun, withState}
 
 -- its phase has a further piece; its job has a further phase
@@ -203,9 +202,7 @@ module _ {d : Dispatcher} {flag : Bool} {due : Due} {ran : Ran} {i : ℕ} (found
       record {
         moved = moved;
         answered = λ entered. found .told ∙ ap (λ (w : Due). toldOf w (endsNow d flag)) (found .is) ∙ answers entered;
-        kept =
-            still-in-range d f (workAt S x flag s (d .running)) (work-range S x (ranged d f) flag s (f .jobs) (f .state) (d .running) refl)
-            (works-at S x (ranged d f) 0 flag s (f .jobs) (d .running) refl .1) r moved;
+        kept = still-in-range d f (workAt S x flag s (d .running)) (work-keeps S x (ranged d f) s (own-keeps d f) flag) r moved;
       }
 
   -- nothing runs

@@ -3,7 +3,7 @@
 use mathlib.Core.Path.{_≡_, sym, ap, _∙_, subst}
 use mathlib.Core.Bool.{Bool, true, false, not, true≢false}
 use Rattle.finite.specs.laws.Tests.{cond-false, cond-true}
-use Rattle.records.specs.Ranges.{inRange, usable}
+use Rattle.records.specs.Ranges.{inRange}
 use Rattle.records.specs.Record.{emptyRecord}
 use Rattle.records.specs.Taken.{Taken}
 use Rattle.records.specs.declared.Dispatcher.{Dispatcher}
