@@ -2,10 +2,11 @@
 -- Assumes nothing.
 use mathlib.Core.Bool.{Bool, not, cond, _&&_, _||_}
 use mathlib.Core.List.{List}
-use Prim.Native.Nat.{ℕ, zero, suc, _+_, _-_, _*_, _/_, _%_}
+use Prim.Native.Nat.{ℕ, zero, suc, _+_, _-_, _*_}
 use lib.Dec.{leb, ltb, eqb}
 use lib.ListN.{getD}
-use Rattle.arrays.specs.Masks.{bit, digit}
+use Rattle.arrays.specs.Masks.{bit}
+use Rattle.model.specs.Phase.{pieceLength}
 use Rattle.arrays.specs.declared.rules.Due.{Due}
 
 -- whether bit i of the mask is let in
@@ -22,17 +23,13 @@ urgentOf unfinished left zero = 0
 urgentOf unfinished left (suc i) =
     cond (goesBefore unfinished left i (urgentOf unfinished left i) (getD left (urgentOf unfinished left i - 1) 0)) (suc i) (urgentOf unfinished left i)
 
--- the ticks of piece k (from 1) of a phase of c in x pieces
-abbrev pub pieceTicks : ℕ → ℕ → ℕ → ℕ → ℕ
-pieceTicks c q x k = c / x + digit (leb k (c % x)) + q
-
 -- the place of task t's (from 1) running or next due phase in the arrays of 256
 abbrev pub placeOf : List ℕ → ℕ → ℕ
 placeOf phase t = 8 * (t - 1) + (getD phase (t - 1) 0 - 1)
 
--- the ticks of its running or next due piece
+-- the ticks of its running or next due piece, as the model has the length of a piece
 abbrev pub ticksOf : List ℕ → List ℕ → List ℕ → List ℕ → List ℕ → ℕ → ℕ
-ticksOf phase piece work cost counts t = pieceTicks (getD work (placeOf phase t) 0) (getD cost (placeOf phase t) 0) (getD counts (placeOf phase t) 0) (getD piece (t - 1) 0)
+ticksOf phase piece work cost counts t = pieceLength (getD work (placeOf phase t) 0) (getD cost (placeOf phase t) 0) (getD counts (placeOf phase t) 0) (getD piece (t - 1) 0 - 1)
 
 -- that piece: its phase and number, how many pieces its phase has, and how many phases the job
 abbrev pub dueOf : List ℕ → List ℕ → List ℕ → List ℕ → ℕ → Due

@@ -1,9 +1,8 @@
 // Numbers, and reads and writes at any index of a lent array.
 ghost use mathlib.Core.Path.{_≡_};
 ghost use mathlib.Core.Bool.{cond};
-ghost use Prim.Native.Nat.{_+_, _-_, _/_, _%_, _<_, min};
+ghost use Prim.Native.Nat.{_+_, _-_, _<_, min};
 ghost use lib.ListN.{getD, length};
-ghost use Rattle.arrays.specs.Masks.{digit};
 
 pub fn up_to(s: u32, t: u32) -> u32
     ensures { λ r. ⌜ r ≡ min t (s + 1) ⌝ }
@@ -40,30 +39,6 @@ pub fn from_one(number: u32) -> usize
     ensures { λ r. ⌜ (r ≡ number - 1) × (r < 4294967296) ⌝ }
 {
     index(down(number))
-}
-
-pub fn one_if(b: bool) -> u64
-    ensures { λ r. ⌜ (r ≡ digit b) × (r < 2) ⌝ }
-{
-    if b { 1 } else { 0 }
-}
-
-pub fn wide(x: u32) -> u64
-    ensures { λ r. ⌜ (r ≡ x) × (r < 4294967296) ⌝ }
-{
-    x as u64
-}
-
-pub fn quotient(c: u32, x: u32) -> u32
-    ensures { λ r. ⌜ r ≡ c / x ⌝ }
-{
-    if x == 0 { 0 } else { c / x }
-}
-
-pub fn remainder(c: u32, x: u32) -> u32
-    ensures { λ r. ⌜ r ≡ c % x ⌝ }
-{
-    if x == 0 { c } else { c % x }
 }
 
 pub fn at32(a: &[u32; 32], i: usize) -> u32

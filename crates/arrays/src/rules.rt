@@ -1,17 +1,14 @@
 // The tick's rules on lent arrays: whom to let in, which job goes first, and which piece of it is due.
 use crate::numbers::at32;
 use crate::numbers::at256;
+use crate::numbers::down;
 use crate::numbers::either;
 use crate::numbers::from_one;
-use crate::numbers::one_if;
-use crate::numbers::quotient;
-use crate::numbers::remainder;
-use crate::numbers::wide;
 ghost use mathlib.Core.Path.{_≡_};
 ghost use Prim.Native.Nat.{_+_, _*_, _^_, _<_};
 ghost use lib.ListN.{length};
 ghost use Rattle.arrays.specs.Masks.{digit, maskOf};
-ghost use Rattle.arrays.specs.Rules.{letsIn, urgentOf, pieceTicks, placeOf, ticksOf, dueOf};
+ghost use Rattle.arrays.specs.Rules.{letsIn, urgentOf, placeOf, ticksOf, dueOf};
 
 // The piece of a task (from 1; 0 for none) that runs or is next due: its phase and number, and how many of each there are.
 pub struct Due {
@@ -69,15 +66,6 @@ pub fn urgent<'a>(unfinished: &'a [u32; 32], left: &'a [u32; 32]) -> u32
     best
 }
 
-// The stated length of a piece (from 1) of a phase of c in x pieces.
-fn piece_ticks(c: u32, q: u32, x: u32, piece: u32) -> u64
-    ensures { λ r. ⌜ r ≡ pieceTicks c q x piece ⌝ }
-{
-    let whole = wide(quotient(c, x));
-    let more = one_if(piece <= remainder(c, x));
-    whole + more + wide(q)
-}
-
 // The place of a task's (from 1) due phase in the arrays of 256.
 fn due_place(phase: &[u32; 32], task: u32) -> usize
     requires { ⌜ length (now phase) ≡ 32 ⌝ }
@@ -104,8 +92,8 @@ pub fn due_ticks<'a>(
     let c = at256(work, place);
     let q = at256(cost, place);
     let x = at256(counts, place);
-    let due = at32(piece, from_one(task));
-    piece_ticks(c, q, x, due)
+    let due = down(at32(piece, from_one(task)));
+    pieces::phase::length(c, q, x, due)
 }
 
 // ---- rule 3: the piece that runs

@@ -98,7 +98,7 @@ module _ (d : Dispatcher) (long : Long d) (range : inRange d ≡ true) where
       ticks : (j : ℕ) → j < S .n → s .busy j ≡ true → dueTicks d (suc j) ≡ stated S x j (s .phase j) (s .piece j)
       ticks j l b =
           let at : At S x j (s .phase j) (s .piece j) = f .jobs .job j l b in
-          due-of-views d j (omega (arith, at .phase-least, at .phase-most, few-phases d f j l)) (at .piece-least)
+          due-of-views d j (omega (arith, at .phase-least, at .phase-most, few-phases d f j l))
 
       due : (j : ℕ) → suc j ≡ best s (S .n) → dueTicks d (suc j) ≡ stated S x j (s .phase j) (s .piece j)
       due j e = let b : Best s (S .n) (suc j) = subst (Best s (S .n)) (sym e) (best-is s (S .n)) in ticks j (b .task) (b .unfinished)

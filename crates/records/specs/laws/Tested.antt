@@ -168,7 +168,7 @@ module _ (d : Dispatcher) (long : Long d) where
     due-alike now h l b =
         let e : s .run ≡ suc (s .run - 1) = go (s .run) h in
         let j = now (s .run - 1) (omega (arith, t .tasks)) .0 (omega arith) .2 .0 b in
-        ap (dueTicks d) e ∙ due-of-views d (s .run - 1) (omega (arith, j .1 .0, j .1 .1, few-of S t .phases (s .run - 1))) (j .2 .0)
+        ap (dueTicks d) e ∙ due-of-views d (s .run - 1) (omega (arith, j .1 .0, j .1 .1, few-of S t .phases (s .run - 1)))
       where
         go : (r : ℕ) → ¬ (r ≡ 0) → r ≡ suc (r - 1)
         go zero n = absurd (n refl)

@@ -1,16 +1,16 @@
 -- A record is given by its table, counts and state, and these by the record.
 -- Assumes nothing.
 use mathlib.Core.Path.{_≡_, refl, sym, ap, ap₂, _∙_}
-use mathlib.Core.Bool.{Bool, true, false, cond}
+use mathlib.Core.Bool.{Bool, true, false}
 use mathlib.Core.List.{List}
 use Prim.Native.Nat.{ℕ, zero, suc, _+_, _-_, _*_, _/_, _%_, _≤_, _<_}
 use native.Mathlib.Decide.{decLt}
 use native.Mathlib.Omega.{arith}
-use lib.Dec.{leb, eqb}
+use lib.Dec.{eqb}
 use lib.ListN.{length, getD, List·getD-eq-default}
 use Rattle.arrays.specs.Masks.{digit}
 use Rattle.finite.specs.Finite.{listTo}
-use Rattle.arrays.specs.Rules.{pieceTicks, ticksOf}
+use Rattle.arrays.specs.Rules.{ticksOf}
 use Rattle.finite.specs.laws.Lists.{getD-list, length-list, list-alike, list-of}
 use Rattle.records.specs.Record.{countsIn, recordOf, stateIn, tasksIn}
 use Rattle.records.specs.Ranges.{WithCounts}
@@ -159,20 +159,14 @@ module _ (S : Tasks) (x : Choice) (table : WithCounts S x) where
 abbrev pub dueTicks : Dispatcher → ℕ → ℕ
 dueTicks d t = ticksOf (d .phase) (d .piece) (d .work) (d .cost) (d .counts) t
 
-length-is : (c q x p : ℕ) → 1 ≤ p → pieceTicks c q x p ≡ pieceLength c q x (p - 1)
-unfolding pieceLength
-length-is c q x p h =
-    let e : p ≡ suc (p - 1) = omega arith in
-    ap (λ z. c / x + cond (leb z (c % x)) 1 0 + q) e
-
-pub due-of-views : (d : Dispatcher) (j : ℕ) → getD (d .phase) j 0 - 1 < 8 → 1 ≤ getD (d .piece) j 0
+-- they are what the rules state; nothing is asked of the kind of phase
+pub due-of-views : (d : Dispatcher) (j : ℕ) → getD (d .phase) j 0 - 1 < 8
     → dueTicks d (suc j) ≡ stated (tasksIn d) (countsIn d) j (getD (d .phase) j 0) (getD (d .piece) j 0)
 unfolding stated
-due-of-views d j l h =
+due-of-views d j l =
     let e : suc j - 1 ≡ j = omega arith in
     let k : ℕ = getD (d .phase) j 0 - 1 in
     ap
-    (λ z. pieceTicks (getD (d .work) (8 * z + (getD (d .phase) z 0 - 1)) 0) (getD (d .cost) (8 * z + (getD (d .phase) z 0 - 1)) 0) (getD (d .counts) (8 * z + (getD (d .phase) z 0 - 1)) 0) (getD (d .piece) z 0))
+    (λ z. pieceLength (getD (d .work) (8 * z + (getD (d .phase) z 0 - 1)) 0) (getD (d .cost) (8 * z + (getD (d .phase) z 0 - 1)) 0) (getD (d .counts) (8 * z + (getD (d .phase) z 0 - 1)) 0) (getD (d .piece) z 0 - 1))
     e ∙
-    length-is _ _ _ (getD (d .piece) j 0) h ∙
     (λ t. pieceLength (sym (phase-at (d .work) j k l) t) (sym (phase-at (d .cost) j k l) t) (sym (phase-at (d .counts) j k l) t) (getD (d .piece) j 0 - 1))

@@ -21,8 +21,11 @@ from-one-requires c κs = search needs
 at32-requires : tie.Need-at32-requires
 at32-requires c κs = search needs
 
-piece-ticks-requires : tie.Need-piece-ticks-requires
-piece-ticks-requires c κs = search needs
+down-requires : tie.Need-down-requires
+down-requires c κs = search needs
+
+length-requires : tie.Need-length-requires
+length-requires c κs = search needs
 
 returns : tie.Need-returns
 returns c = cc
@@ -37,5 +40,6 @@ due-ticks-spec =
     at256-requires-3
     from-one-requires
     at32-requires
-    piece-ticks-requires
+    down-requires
+    length-requires
     returns)
