@@ -2,11 +2,7 @@
 -- their own.) Assumes nothing.
 use Prim.Native.Nat.{ℕ, _+_, _*_}
 use mathlib.Core.Bool.{Bool, _&&_}
-use mathlib.Core.List.{List}
-use mathlib.Core.Path.{_≡_}
 use lib.Dec.{eqb}
-use lib.ListN.{length}
-use lib.Seq.{sets}
 use Rattle.finite.specs.If.{if_then_else_}
 use Rattle.groups.specs.declared.Number.{Number}
 use Rattle.groups.specs.declared.Number.the-variants.{Value, Malformed}
@@ -14,8 +10,3 @@ use Rattle.groups.specs.declared.Number.the-variants.{Value, Malformed}
 -- a number whose last byte is b, behind the groups that make `value`, below `weight`
 abbrev pub lastOf : (value weight : ℕ) (longer : Bool) (b next : ℕ) → Number
 lastOf value weight longer b next = if longer && eqb b 0 then Malformed else Value (value + weight * b) next
-
--- `bytes` written at `at` of a buffer, and the place behind them
-pub record Wrote (before after : List ℕ) (at next : ℕ) (bytes : List ℕ) : Type 0 where
-  pub next-is : next ≡ at + length bytes
-  pub after-is : after ≡ sets before at bytes
