@@ -31,7 +31,7 @@ abbrev pub ranOf : rules.Answer → Ran
 ranOf a = record { task = a .ran; phase = a .phase; piece = a .piece; ended = a .ended; finished = a .finished }
 
 -- 3. The running piece uses one tick. What is answered is what ran and what became of it, whoever was let in before.
-pub record Works (d : Dispatcher) (flag : Bool) (next : Dispatcher) (ran : Ran) : Type 0 where
+pub record WorksOn (d : Dispatcher) (flag : Bool) (next : Dispatcher) (ran : Ran) : Type 0 where
   pub moved : next ≡ inState d (rules.workAt (tasksIn d) (countsIn d) flag (stateIn d) (d .running))
   pub answered : (entered : ℕ → Bool) → ran ≡ ranOf (rules.answerBy (tasksIn d) (countsIn d) entered flag (stateIn d) (d .running))
   pub kept : inRange next ≡ true

@@ -13,7 +13,7 @@ use records::Dispatcher;
 ghost use mathlib.Core.Path.{_≡_};
 ghost use mathlib.Core.Bool.{true};
 ghost use Rattle.records.specs.Ranges.{inRange};
-ghost use Rattle.dispatch.specs.Steps.{Admits, Elapses, Picks, Works};
+ghost use Rattle.dispatch.specs.Steps.{Admits, Elapses, Picks, WorksOn};
 ghost use Rattle.dispatch.specs.laws.Working.{toldOf};
 
 // What step 1 gives: the record after it, and the mask of the bits let in.
@@ -102,7 +102,7 @@ fn told(due: Due, ended: bool) -> Ran
 // Step 3. The piece goes on, or it ends: the next piece is due, or the first of the next phase, or the job is finished.
 pub fn work(mut held: Dispatcher, flag: bool) -> Worked
     requires { ⌜ inRange held ≡ true ⌝ }
-    ensures { λ r. ⌜ Works held flag (r .next) (r .ran) ⌝ }
+    ensures { λ r. ⌜ WorksOn held flag (r .next) (r .ran) ⌝ }
 {
     let task = held.running;
     let due = due_piece(&held.phases, &held.counts, &held.phase, &held.piece, task);

@@ -1,4 +1,4 @@
-// One phase, by its numbers: work c, switching cost q, count x, margin. Each contract is a word of model/specs/Phase.
+// One phase, by its numbers: work c, switching cost q, count x, margin. The contracts are in the words of model/specs/Phase.
 use crate::numbers::ceil_div;
 use crate::numbers::one_if;
 use crate::numbers::quotient;

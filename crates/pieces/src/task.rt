@@ -57,7 +57,7 @@ pub fn piece_at<'a>(
     x: &'a [u32; 256],
 ) -> u64
     requires { ⌜ (i < tasksMost) × (j < phasesMost) × (0 < phaseAt (now x) i j) ⌝ }
-    ensures { λ r. ⌜ (r ≡ phasesIn (now (c .entry)) (now (q .entry)) .piece i j (phaseAt (now (x .entry)) i j)) × (r ≤ phaseAt (now (c .entry)) i j + phaseAt (now (q .entry)) i j) ⌝ }
+    ensures { λ r. ⌜ (r ≡ phasesIn (now (c .entry)) (now (q .entry)) .longestPiece i j (phaseAt (now (x .entry)) i j)) × (r ≤ phaseAt (now (c .entry)) i j + phaseAt (now (q .entry)) i j) ⌝ }
 {
     longest(phase_at(c, i, j), phase_at(q, i, j), phase_at(x, i, j))
 }
@@ -71,7 +71,7 @@ pub fn budget_under<'a>(
     q: &'a [u32; 256],
 ) -> u64
     requires { ⌜ Roomy (held (now m) (now c) (now q)) margin i ⌝ }
-    ensures { λ r. ⌜ r ≡ phasesOf (held (now (m .entry)) (now (c .entry)) (now (q .entry))) .cost (needs (phasesIn (now (c .entry)) (now (q .entry))) margin) i ⌝ }
+    ensures { λ r. ⌜ r ≡ phasesOf (held (now (m .entry)) (now (c .entry)) (now (q .entry))) .budget (needs (phasesIn (now (c .entry)) (now (q .entry))) margin) i ⌝ }
 {
     let many = size(m[i]);
     let mut sum: u64 = 0;

@@ -1,14 +1,15 @@
 -- DEFINITIONS. How the dispatcher's record, an array for each field, is read as a table with counts and as the rules' state, and how it is written
 -- from them. The rules are those of promise; tasks and phases are numbered from 0.
 -- Assumes nothing.
+use mathlib.Core.Path.{_≡_}
 use mathlib.Core.Bool.{Bool}
 use Prim.Native.Nat.{ℕ, _/_, _%_}
 use lib.Dec.{eqb}
-use lib.ListN.{getD, replicate}
+use lib.ListN.{getD, length, replicate}
 use Rattle.arrays.specs.Masks.{bit, digit}
 use Rattle.finite.specs.Finite.{listTo}
 use Rattle.records.specs.declared.Dispatcher.{Dispatcher}
-use Rattle.model.specs.Arrays.{Arrays, asTasks, phaseAt}
+use Rattle.model.specs.Arrays.{Arrays, Sized, asTasks, phaseAt}
 use Rattle.model.specs.Phase.{Choice}
 use Rattle.model.specs.Tasks.{Tasks}
 use Rattle.promise.specs.Rules.{Request, State}
@@ -78,3 +79,13 @@ emptyRecord = record {
   running = 0;
   ticks = 0;
 }
+
+-- the lengths of the arrays, which their types give
+pub record Long (d : Dispatcher) : Type 0 where
+  pub table : Sized (arraysIn d)
+  pub counts : length (d .counts) ≡ 256
+  pub since : length (d .since) ≡ 32
+  pub unfinished : length (d .unfinished) ≡ 32
+  pub left : length (d .left) ≡ 32
+  pub phase : length (d .phase) ≡ 32
+  pub piece : length (d .piece) ≡ 32

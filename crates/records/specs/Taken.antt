@@ -4,7 +4,7 @@ use mathlib.Core.Path.{_≡_}
 use mathlib.Core.Bool.{true}
 use Rattle.records.specs.Ranges.{inRange, usable}
 use Rattle.records.specs.declared.Dispatcher.{Dispatcher}
-use Rattle.records.specs.laws.Fields.{Long}
+use Rattle.records.specs.Record.{Long}
 
 -- what record d is taken as
 pub record Taken (d r : Dispatcher) : Type 0 where

@@ -18,14 +18,14 @@ use Rattle.table.specs.declared.Table.{Table}
 use Rattle.table.specs.declared.ParseOutcome.the-variants.{Parsed, TurnedAway}
 use Rattle.table.specs.declared.Parsing.{Parsing}
 use Rattle.table.specs.declared.Reading.{Reading}
-use Rattle.table.specs.declared.ReadOutcome.the-variants.{TurnedAway as Refused}
+use Rattle.table.specs.declared.ReadOutcome.the-variants.{TurnedAway as NotRead}
 use Rattle.table.specs.declared.items.Found.{Found}
 use Rattle.table.specs.declared.items.Found.the-variants.{Value as IsNumber, Away as NoNumber}
 use Rattle.table.specs.declared.items.NumberRead.{NumberRead}
 use Rattle.table.specs.declared.items.Step.{Step}
 use Rattle.table.specs.Parse.{Result, got, away, Parser, andThen, _>>=_, _>>_, done, tested, numberIn, each, phase, task, nothingBehind, numbers, table, empty, withPhase, withTask, parsedOf, limitOf, readingOf}
-use Rattle.table.specs.Steps.{readTo, foundOf, passedOn, awayAt, allTasks, limitedBy, Reads, Leaves, Ranged, NumberFrom, PhasesFrom, EndFrom}
-use Rattle.table.specs.TaskModel.{arrays, phaseArrays, tasksOf}
+use Rattle.table.specs.Steps.{arrays, phaseArrays, readTo, foundOf, passedOn, awayAt, allTasks, limitedBy, Reads, Leaves, Ranged, NumberFrom, PhasesFrom, EndFrom}
+use Rattle.table.specs.TaskModel.{tasksOf}
 use Rattle.table.specs.Valid.{InRange}
 use Rattle.table.proofs.Ranges.{limited-reading}
 use Rattle.table.proofs.Steps.{next, go-on, then-done}
@@ -200,6 +200,6 @@ module _ (bytes : List ℕ) {p : Parsing} (is : p ≡ parsedOf (numbers bytes 0)
   read-on o = let (next, e) = was-parsed (numbers bytes 0) is o in rw e (sym (limited-reading (p .table) bytes next))
 
   pub read-away : {reason place : ℕ} → p .outcome ≡ TurnedAway reason place
-      → _≡_ {A = Reading} (record { outcome = Refused reason place; table = p .table }) (readingOf (table bytes 0))
+      → _≡_ {A = Reading} (record { outcome = NotRead reason place; table = p .table }) (readingOf (table bytes 0))
   unfolding table
   read-away o = let (e, none) = was-not-parsed (numbers bytes 0) is o in rw (e, none)

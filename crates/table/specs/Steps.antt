@@ -20,7 +20,7 @@ use Rattle.table.specs.declared.ReadOutcome.{ReadOutcome}
 use Rattle.table.specs.declared.ReadOutcome.the-variants.{Read, TurnedAway}
 use Rattle.table.specs.Parser.{Result, got, away, Parser, _>>=_}
 use Rattle.table.specs.Parse.{empty, tested, numberIn, each, phase, task, nothingBehind, withTask}
-use Rattle.table.specs.TaskModel.{putPhase}
+use Rattle.table.specs.TaskModel.{withPhase}
 
 -- A step is a reason and a place. What was read up to a step, and what is read from it on:
 abbrev pub readTo : {A : Type 0} → (reason place : ℕ) → A → Result A
@@ -59,6 +59,18 @@ passedOn (NoNumber reason place) = awayAt reason place
 pub record NumberFrom (bytes : List ℕ) (reason place least most : ℕ) (r : NumberRead) : Type 0 where
   pub reads : Reads bytes reason place (numberIn least most) (r .reason) (r .place) (r .value)
   pub high : r .value ≤ most
+
+-- a table with the numbers of a phase put that were read
+abbrev pub putPhase : (place : ℕ) → PhaseRead → Table → Table
+putPhase place r t = withPhase place (r .work) (r .cost) t
+
+-- a table with other arrays for the phases
+abbrev pub phaseArrays : (work cost : List ℕ) → Table → Table
+phaseArrays work cost t = record { tasks = t .tasks; spacing = t .spacing; deadline = t .deadline; phases = t .phases; work = work; cost = cost }
+
+-- the table of so many tasks that stands in arrays
+abbrev pub arrays : (spacing deadline phases work cost : List ℕ) → ℕ → Table
+arrays spacing deadline phases work cost n = record { tasks = n; spacing = spacing; deadline = deadline; phases = phases; work = work; cost = cost }
 
 -- the numbers of a phase, put at any place of any table
 pub record PhaseFrom (bytes : List ℕ) (reason place : ℕ) (r : PhaseRead) : Type 0 where

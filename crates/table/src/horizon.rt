@@ -52,7 +52,7 @@ pub fn horizon(n: usize, spacing: &[u32; 32]) -> u64
     h
 }
 
-// The sum of h over each of the first n spacings. (A layer's own call: h is a horizon zeroAbove its limit.)
+// The sum of h over each of the first n spacings. (A layer's own call: h is a horizon within its limit.)
 pub fn jobs_within(n: usize, h: u64, spacing: &[u32; 32]) -> u64
     requires { ⌜ Spacings (now spacing) n × (h ≤ horizonMost) ⌝ }
     ensures { λ r. ⌜ r ≡ sumTo n (λ i. h / getD (now (spacing .entry)) i 0) ⌝ }

@@ -6,8 +6,7 @@ use groups::Number;
 ghost use mathlib.Core.Path.{_≡_};
 ghost use Prim.Native.Nat.{_≤_};
 ghost use Rattle.table.specs.Parse.{numberIn};
-ghost use Rattle.table.specs.Steps.{awayAt, EndFrom, foundOf, HeadFrom, NumberFrom, passedOn, Ranged, PhaseFrom, PhasesFrom, TasksFrom};
-ghost use Rattle.table.specs.TaskModel.{arrays, phaseArrays};
+ghost use Rattle.table.specs.Steps.{arrays, phaseArrays, awayAt, EndFrom, foundOf, HeadFrom, NumberFrom, passedOn, Ranged, PhaseFrom, PhasesFrom, TasksFrom};
 
 // Where reading stands.
 pub struct Step {

@@ -21,7 +21,7 @@ addedMost = tasksMost * budgetMost
 
 -- the budget of task i whose counts are the least for a margin
 abbrev pub leastBudget : Arrays → ℕ → ℕ → ℕ
-leastBudget a M i = phasesOf (held (a .phases) (a .work) (a .cost)) .cost (needs (phasesIn (a .work) (a .cost)) M) i
+leastBudget a M i = phasesOf (held (a .phases) (a .work) (a .cost)) .budget (needs (phasesIn (a .work) (a .cost)) M) i
 
 -- what is known of a task from its deadline d on: the new value at t, which is its deadline, otherwise the old one
 abbrev pub settled : ℕ → ℕ → ℕ → ℕ → ℕ

@@ -89,7 +89,7 @@ nine = record { n = 1; T = λ i. 9; D = λ i. 9; m = λ i. 1; c = λ i j. 9; q =
 
 -- 9 in 4 pieces, q 0: lengths 3, 2, 2, 2
 abbrev pub J : Example
-J = writes (listTo 4 (phasesOf nine .length 0 0 4)) is writes (3 ∷ 2 ∷ 2 ∷ 2 ∷ [])
+J = writes (listTo 4 (phasesOf nine .pieceLength 0 0 4)) is writes (3 ∷ 2 ∷ 2 ∷ 2 ∷ [])
 
 -- bytes 80 00: turned away 3 0
 abbrev pub K : Example

@@ -16,7 +16,7 @@ use Rattle.records.specs.Record.{countsIn, recordOf, requestOf, stateIn, tasksI
 use Rattle.records.specs.declared.Dispatcher.{Dispatcher}
 use Rattle.records.specs.laws.Fields.{Fields, Long}
 use Rattle.records.specs.laws.InRange.{range-fields}
-use Rattle.dispatch.specs.Steps.{Admits, Elapses, Picks, Works, ranOf}
+use Rattle.dispatch.specs.Steps.{Admits, Elapses, Picks, WorksOn, ranOf}
 use Rattle.dispatch.specs.Tick.{Ticks, answerFor, recordAfter, rulesAnswer}
 use Rattle.dispatch.specs.declared.Answer as code
 use Rattle.dispatch.specs.declared.steps.Ran.{Ran}
@@ -50,7 +50,7 @@ entered-most d asked next entered l h = omega (arith, h .answered, asked-parts (
 
 -- ---- the four steps
 module _ (d : Dispatcher) (f : Fields d) (asked : ℕ) (flag : Bool) (a b c next : Dispatcher) (entered : ℕ) (ran : Ran)
-    (admits : Admits d asked a entered) (picked : Picks a b) (worked : Works b flag c ran) (elapsed : Elapses c next) where
+    (admits : Admits d asked a entered) (picked : Picks a b) (worked : WorksOn b flag c ran) (elapsed : Elapses c next) where
   abbrev S : Tasks
   S = tasksIn d
 
@@ -130,7 +130,7 @@ module _ (d : Dispatcher) (f : Fields d) (asked : ℕ) (flag : Bool) (a b c next
 -- of a record d that is taken as e, which goes through the four steps
 pub ticks-by : (d e : Dispatcher) → e ≡ usable d → Long e → inRange e ≡ true → (mask : ℕ) (flag : Bool) → mask < 2 ^ 32 →
     (a b c next : Dispatcher) (entered : ℕ) (ran : Ran) (r : code.Answer) →
-    Admits e mask a entered → Picks a b → Works b flag c ran → Elapses c next → r ≡ answerWith mask entered ran → Ticks d mask flag next r
+    Admits e mask a entered → Picks a b → WorksOn b flag c ran → Elapses c next → r ≡ answerWith mask entered ran → Ticks d mask flag next r
 ticks-by d e u long range mask flag l a b c next entered ran r h₁ h₂ h₃ h₄ h =
     let f : Fields e = range-fields e long range in
     let answered : r ≡ answerFor mask (rulesAnswer e (requestOf mask flag)) = h ∙ answer-is e f mask flag a b c next entered ran h₁ h₂ h₃ h₄ l in

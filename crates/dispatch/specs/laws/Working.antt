@@ -26,7 +26,7 @@ use Rattle.records.specs.Record.{countsIn, stateIn, tasksIn}
 use Rattle.records.specs.declared.Dispatcher.{Dispatcher}
 use Rattle.records.specs.laws.Fields.{Fields, Long}
 use Rattle.records.specs.laws.InRange.{range-fields}
-use Rattle.dispatch.specs.Steps.{Works, inState, ranOf}
+use Rattle.dispatch.specs.Steps.{WorksOn, inState, ranOf}
 use Rattle.dispatch.specs.declared.steps.Ran.{Ran}
 use Rattle.dispatch.specs.laws.Keeps.{work-keeps}
 use Rattle.dispatch.specs.laws.Reads.{few, few-phases, own-keeps, ranged, still-in-range}
@@ -197,7 +197,7 @@ module _ {d : Dispatcher} {flag : Bool} {due : Due} {ran : Ran} {i : ℕ} (found
   ticks-some n = f .jobs .runs i (runs-at n) .some
 
   -- ---- the record after it, whichever way it goes
-  works-as : (r : Dispatcher) → r ≡ inState d (workAt S x flag s (d .running)) → Works d flag r ran
+  works-as : (r : Dispatcher) → r ≡ inState d (workAt S x flag s (d .running)) → WorksOn d flag r ran
   works-as r moved =
       record {
         moved = moved;
@@ -206,16 +206,16 @@ module _ {d : Dispatcher} {flag : Bool} {due : Due} {ran : Ran} {i : ℕ} (found
       }
 
   -- nothing runs
-  pub works-none : d .running ≡ 0 → Works d flag d ran
+  pub works-none : d .running ≡ 0 → WorksOn d flag d ran
   works-none e = works-as d (as-it-is d long f ∙ ap (λ r. inState d (workAt S x flag s r)) (sym e))
 
   -- the running piece has the outcome o
-  works-to : d .running ≡ suc i → (o : Outcome) (r : Dispatcher) → outcome S x flag s i ≡ o → r ≡ withState d (after s i o) → Works d flag r ran
+  works-to : d .running ≡ suc i → (o : Outcome) (r : Dispatcher) → outcome S x flag s i ≡ o → r ≡ withState d (after s i o) → WorksOn d flag r ran
   works-to runs o r e h =
       works-as r (h ∙ in-state d long f (after s i o) ∙ ap (λ o. inState d (after s i o)) (sym e) ∙ ap (λ r. inState d (workAt S x flag s r)) (sym runs))
 
   -- the piece goes on
-  pub works-on : endsNow d flag ≡ false → (d .running ≡ 0 → ⊥) → Works d flag (withRun d (d .running) (d .ticks - 1)) ran
+  pub works-on : endsNow d flag ≡ false → (d .running ≡ 0 → ⊥) → WorksOn d flag (withRun d (d .running) (d .ticks - 1)) ran
   unfolding outcome
   works-on u n =
       works-to (runs-at n) on _ (cond-false (usedUp d flag) _ on (on-used u n))
@@ -239,7 +239,7 @@ module _ {d : Dispatcher} {flag : Bool} {due : Due} {ran : Ran} {i : ℕ} (found
     further-is b e = sym (ap morePhases here) ∙ e
 
     -- the next piece is due
-    pub works-piece : due .piece < due .pieces → Works d flag (withJobs d (d .since) (d .unfinished) (d .left) (d .phase) (set (d .piece) i (due .piece + 1)) 0 0) ran
+    pub works-piece : due .piece < due .pieces → WorksOn d flag (withJobs d (d .since) (d .unfinished) (d .left) (d .phase) (set (d .piece) i (due .piece + 1)) 0 0) ran
     unfolding outcome
     works-piece l =
         works-to runs nextPiece _ (cond-true (usedUp d flag) _ on (ends-used ends) ∙ cond-true _ nextPiece _ (more-is true (lt-ltb _ _ l)))
@@ -248,7 +248,7 @@ module _ {d : Dispatcher} {flag : Bool} {due : Due} {ran : Ran} {i : ℕ} (found
 
     -- the first piece of the next phase is due
     pub works-phase : due .pieces ≤ due .piece → due .phase < due .phases →
-        Works d flag (withJobs d (d .since) (d .unfinished) (d .left) (set (d .phase) i (due .phase + 1)) (set (d .piece) i 1) 0 0) ran
+        WorksOn d flag (withJobs d (d .since) (d .unfinished) (d .left) (set (d .phase) i (due .phase + 1)) (set (d .piece) i 1) 0 0) ran
     unfolding outcome
     works-phase l k =
         works-to runs nextPhase _
@@ -258,7 +258,7 @@ module _ {d : Dispatcher} {flag : Bool} {due : Due} {ran : Ran} {i : ℕ} (found
 
     -- the job is finished
     pub works-done : due .pieces ≤ due .piece → due .phases ≤ due .phase →
-        Works d flag (withJobs d (d .since) (set (d .unfinished) i 0) (set (d .left) i 0) (set (d .phase) i 0) (set (d .piece) i 0) 0 0) ran
+        WorksOn d flag (withJobs d (d .since) (set (d .unfinished) i 0) (set (d .left) i 0) (set (d .phase) i 0) (set (d .piece) i 0) 0 0) ran
     unfolding outcome
     works-done l k =
         works-to runs done _

@@ -36,7 +36,7 @@ module _ {S : Tasks} {M i many j sum : ℕ} (k : Adding S M i many j sum) where
   adding-more {r} e l =
       record { roomy = k .roomy; all = k .all; so-far = omega arith; is = rw sum-more (omega (arith, k .is, e .0)); most = omega (arith, k .most, e .1) }
 
-  pub adding-all : many ≤ j → sum ≡ phasesOf S .cost (needs (phasesOf S) M) i
+  pub adding-all : many ≤ j → sum ≡ phasesOf S .budget (needs (phasesOf S) M) i
   adding-all le =
       let done : j ≡ S .m i = omega (arith, k .all, k .so-far) in
       k .is ∙ ap (λ (n : ℕ). sumTo n (brings S (needs (phasesOf S) M) i)) done ∙ sym (pieces-of S .whole (needs (phasesOf S) M) i)
@@ -47,7 +47,7 @@ pub record Rising (S : Tasks) (x : Choice) (i many j top : ℕ) : Type 0 where
   pub cut : InPieces S x i
   pub all : many ≡ S .m i
   pub so-far : j ≤ many
-  pub is : top ≡ maxTo j (λ k. phasesOf S .piece i k (x i k))
+  pub is : top ≡ maxTo j (λ k. phasesOf S .longestPiece i k (x i k))
   pub most : top ≤ pieceMost
 
 pub rising-none : (S : Tasks) (x : Choice) (i many : ℕ) → InPieces S x i → many ≡ S .m i → Rising S x i many 0 0
@@ -57,7 +57,7 @@ module _ {S : Tasks} {x : Choice} {i many j top : ℕ} (k : Rising S x i many j 
   pub rising-some : j < many → 0 < x i j
   rising-some l = k .cut .some j (omega (arith, k .all))
 
-  pub rising-more : {r t : ℕ} → (r ≡ phasesOf S .piece i j (x i j)) × (r ≤ S .c i j + S .q i j) → t ≡ max top r → j < many → Rising S x i many (j + 1) t
+  pub rising-more : {r t : ℕ} → (r ≡ phasesOf S .longestPiece i j (x i j)) × (r ≤ S .c i j + S .q i j) → t ≡ max top r → j < many → Rising S x i many (j + 1) t
   rising-more {r} e et l =
       let h = k .cut .phase j (omega (arith, k .all)) in
       record { cut = k .cut; all = k .all; so-far = omega arith; is = rw max-more (et ∙ rw (k .is, e .0)); most = omega (arith, k .most, e .1, h .work-most, h .cost-most) }
@@ -66,4 +66,4 @@ module _ {S : Tasks} {x : Choice} {i many j top : ℕ} (k : Rising S x i many j 
   unfolding longest
   rising-all le =
       let done : j ≡ S .m i = omega (arith, k .all, k .so-far) in
-      k .is ∙ ap (λ (n : ℕ). maxTo n (λ k. phasesOf S .piece i k (x i k))) done
+      k .is ∙ ap (λ (n : ℕ). maxTo n (λ k. phasesOf S .longestPiece i k (x i k))) done

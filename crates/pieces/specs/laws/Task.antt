@@ -60,14 +60,14 @@ piece-by ea eb ex e = (e .0 ∙ rw (ea, eb, ex), omega (arith, e .1))
 module _ (S : Tasks) (i : ℕ) where
   -- where counts are at most the work, the budget is bounded
   pub cost-most : (x : Choice) → S .m i ≤ phasesMost → ((j : ℕ) → j < S .m i → PhaseIn S i j) → ((j : ℕ) → j < S .m i → x i j ≤ S .c i j)
-      → phasesOf S .cost x i ≤ budgetMost
+      → phasesOf S .budget x i ≤ budgetMost
   cost-most x few ph le =
       rw (pieces-of S .whole x i)
       (le-trans
       (sum-most (S .m i) phaseMost (brings S x i) (λ j l. let p = ph j l in brought-most (S .c i j) (S .q i j) (x i j) (p .work-most) (p .cost-most) (omega (arith, p .work-most, le j l))))
       (mul-le-mul-right phaseMost few))
 
-  pub budget-most : (M : ℕ) → Roomy S M i → phasesOf S .cost (needs (phasesOf S) M) i ≤ budgetMost
+  pub budget-most : (M : ℕ) → Roomy S M i → phasesOf S .budget (needs (phasesOf S) M) i ≤ budgetMost
   budget-most M r = cost-most (needs (phasesOf S) M) (r .few) (r .phase) (λ j l. need-most (S .c i j) (S .q i j) M (r .room j l))
 
   pub longest-most : (x : Choice) → InPieces S x i → longest S (phasesOf S) x i ≤ pieceMost
@@ -103,7 +103,7 @@ module _ (a : Arrays) where
   pub in-pieces-bare : {x : Choice} {i : ℕ} → InPieces (asTasks a) x i → InPieces bare x i
   in-pieces-bare r = record { task = r .task; few = r .few; phase = λ j l. phase-bare (r .phase j l); some = r .some }
 
-  pub cost-bare : (x : Choice) (i : ℕ) → phasesOf bare .cost x i ≡ phasesOf (asTasks a) .cost x i
+  pub cost-bare : (x : Choice) (i : ℕ) → phasesOf bare .budget x i ≡ phasesOf (asTasks a) .budget x i
   unfolding budget
   cost-bare x i = refl
 

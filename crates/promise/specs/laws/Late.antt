@@ -110,7 +110,7 @@ lateAnswerAt S x lag choose ask t = lateAnswer S x lag choose (ask t) (lateRecor
 
 -- the judge's condition with a lag: demand plus blocking plus the lag is at most t, for each t from the shortest deadline on
 abbrev pub LateWorks : Tasks → Phases → Choice → ℕ → Type 0
-LateWorks S P x lag = (t : ℕ) → Counted S t → demand S (P .cost x) t + blocking S (longest S P x) t + lag ≤ t
+LateWorks S P x lag = (t : ℕ) → Counted S t → demand S (P .budget x) t + blocking S (longest S P x) t + lag ≤ t
 
 -- a request without its ages
 abbrev pub ageless : LateRequest → Request

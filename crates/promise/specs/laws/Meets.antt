@@ -30,7 +30,7 @@ module _ (S : Tasks) (x : Choice) (ranged : (i : ℕ) → i < S .n → Ranged S 
   passes = passAt S x lag choose ask
 
   module _ (r i : ℕ) (l : i < S .n) (e : h r .letIn i ≡ true) where
-    abbrev met : Within (askAt S x lag choose ask) passes i (S .D i - ask r .age i) (phasesOf S .cost x i) r
+    abbrev met : Within (askAt S x lag choose ask) passes i (S .D i - ask r .age i) (phasesOf S .budget x i) r
     met =
         deadline-met (terms S x lag) ρ (askAt S x lag choose ask) passes (viewsAt S x lag choose ask) (runs S x ranged lag choose chosen ask) never-late i l r
         (sym (let-in-is S x ranged lag choose chosen ask r i) ∙ e)

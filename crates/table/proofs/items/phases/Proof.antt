@@ -4,8 +4,7 @@ use mathlib.Core.Path.{refl}
 use borrow.Author.Needs.{needs}
 use Rattle.table.specs.declared.Table.{Table}
 use Rattle.table.specs.Parse.{each, phase}
-use Rattle.table.specs.Steps.{Leaves}
-use Rattle.table.specs.TaskModel.{phaseArrays}
+use Rattle.table.specs.Steps.{Leaves, phaseArrays}
 use Rattle.table.proofs.Steps.{go-on, and-reads, again, finish}
 use Rattle.table.proofs.items.phases.Statement.{statement}
 use Rattle.table.proofs.items.phases.Tie as tie

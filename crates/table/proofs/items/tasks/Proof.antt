@@ -2,8 +2,7 @@
 use Prim.Native.Nat.{_-_, _≤_}
 use borrow.Author.Needs.{needs}
 use Rattle.table.specs.Parse.{each, task}
-use Rattle.table.specs.Steps.{allTasks, Leaves}
-use Rattle.table.specs.TaskModel.{arrays}
+use Rattle.table.specs.Steps.{allTasks, arrays, Leaves}
 use Rattle.table.proofs.ItemLaws.{phases-of, tasks-by}
 use Rattle.table.proofs.Steps.{go-on, and-reads, stays, again, finish}
 use Rattle.table.proofs.items.tasks.Statement.{statement}
