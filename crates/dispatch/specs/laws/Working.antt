@@ -19,7 +19,7 @@ use Rattle.finite.specs.laws.Tests.{and-both, cond-false, cond-true}
 use Rattle.model.specs.Phase.{Choice}
 use Rattle.model.specs.Tasks.{Tasks}
 use Rattle.model.specs.laws.Arrays.{phase-at}
-use Rattle.promise.specs.Rules.{Outcome, State, after, answerBy, done, endsOf, finishesOf, nextPhase, nextPiece, on, outcome, put, workAt}
+use Rattle.promise.specs.Rules.{PieceOutcome, State, after, answerBy, done, endsOf, finishesOf, nextPhase, nextPiece, on, outcome, put, workAt}
 use Rattle.promise.specs.laws.Remaining.{At, RunsAt, put-other, put-same}
 use Rattle.records.specs.Ranges.{inRange}
 use Rattle.records.specs.Record.{countsIn, stateIn, tasksIn}
@@ -210,7 +210,7 @@ module _ {d : Dispatcher} {flag : Bool} {due : Due} {ran : Ran} {i : ℕ} (found
   works-none e = works-as d (as-it-is d long f ∙ ap (λ r. inState d (workAt S x flag s r)) (sym e))
 
   -- the running piece has the outcome o
-  works-to : d .running ≡ suc i → (o : Outcome) (r : Dispatcher) → outcome S x flag s i ≡ o → r ≡ withState d (after s i o) → WorksOn d flag r ran
+  works-to : d .running ≡ suc i → (o : PieceOutcome) (r : Dispatcher) → outcome S x flag s i ≡ o → r ≡ withState d (after s i o) → WorksOn d flag r ran
   works-to runs o r e h =
       works-as r (h ∙ in-state d long f (after s i o) ∙ ap (λ o. inState d (after s i o)) (sym e) ∙ ap (λ r. inState d (workAt S x flag s r)) (sym runs))
 
