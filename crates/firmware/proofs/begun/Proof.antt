@@ -36,7 +36,7 @@ returns-2 : tie.Need-returns-2
 returns-2 c = told-as (c .before .before .before .before .args .started .dispatcher) (c .before .how .given .1)
 
 returns-3 : tie.Need-returns-3
-returns-3 c = c .no-verdict2 .ensures ∙ told-as (c .before .before .before .before .before .args .started .dispatcher) (c .before .before .how2 .given .1)
+returns-3 c = let at = c .before .before in c .no-verdict2 .ensures ∙ told-as (at .before .before .before .args .started .dispatcher) (at .how2 .given .1)
 
 pub begun-spec : {M : Type 1} → statement M
 begun-spec = tie.close (tie.spec enum-told no-verdict-requires enum-known-how enum-known-how-2 cast-no-verdict no-verdict-requires-2 returns returns-2 returns-3)
