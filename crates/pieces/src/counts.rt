@@ -4,7 +4,7 @@ use crate::numbers::size;
 use crate::task::longest_of;
 use crate::task::need_at;
 ghost use mathlib.Core.Path.{_≡_};
-ghost use Prim.Native.Nat.{_+_, _≤_, _<_};
+ghost use Prim.Native.Nat.{_≤_, _<_};
 ghost use lib.ListN.{getD};
 ghost use Rattle.finite.specs.Finite.{Below, listTo};
 ghost use Rattle.model.specs.Arrays.{phaseAt};

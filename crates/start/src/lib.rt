@@ -2,7 +2,6 @@
 use records::Dispatcher;
 use table::Table;
 use walk::judge::Judged;
-ghost use mathlib.Core.Path.{_≡_};
 ghost use Rattle.table.specs.TaskModel.{tasksOf};
 ghost use Rattle.table.specs.Valid.{Valid};
 ghost use Rattle.walk.specs.Judge.{WalkJudges};

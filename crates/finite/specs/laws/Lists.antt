@@ -5,7 +5,7 @@ use mathlib.Core.Bool.{Bool, true, _&&_}
 use mathlib.Core.Logic.{_⊎_, inl, inr, ⊎-elim}
 use mathlib.Core.List.{List, [], _∷_, _++_, append-assoc, append-nil}
 use Prim.Native.Nat.{ℕ, zero, suc, _+_, _≤_, _<_}
-use native.Mathlib.Nat.{le-refl, eq-or-lt-of-le}
+use native.Mathlib.Nat.{eq-or-lt-of-le}
 use native.Mathlib.Numerals.{add-one}
 use native.Mathlib.Omega.{arith}
 use lib.ListN.{length, getD, set, length-set, length-append, List·getD-append}
@@ -69,10 +69,6 @@ module _ {A : Type 0} where
   pub filled-more : (i : ℕ) (f : ℕ → A) (a b : List A) (v : A) → b ≡ filled i f a → v ≡ f i → set b i v ≡ filled (i + 1) f a
   unfolding filled
   filled-more i f a b v e g = rw (add-one, e, g)
-
-  -- what a loop that fills reads at its own place is what was there
-  pub filled-read : (i : ℕ) (f : ℕ → A) (a b : List A) (d : A) → b ≡ filled i f a → getD b i d ≡ getD a i d
-  filled-read i f a b d e = rw e (filled-rest i f a i d (le-refl i))
 
   pub filled-none : (f : ℕ → A) (a : List A) → a ≡ filled 0 f a
   unfolding filled

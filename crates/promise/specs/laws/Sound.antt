@@ -231,6 +231,3 @@ module _ (τ : Terms) (ρ : Ranges τ) (ask : ℕ → Ask) (pass : ℕ → Pass)
 
   pub picked-sound : (t : ℕ) → Sound τ (v .picked t)
   picked-sound t = picked-from t (entered-sound t)
-
-  pub worked-sound : (t : ℕ) → Sound τ (v .worked t)
-  worked-sound t = worked-from t (picked-sound t)

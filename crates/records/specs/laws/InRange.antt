@@ -16,9 +16,9 @@ use Rattle.model.specs.Tasks.{Tasks}
 use Rattle.model.specs.laws.Arrays.{phase-none}
 use Rattle.model.specs.laws.Ranges.{beyond, few-of, phase-past, places-decide, table-decides, under}
 use Rattle.promise.specs.Rules.{State, stated}
-use Rattle.promise.specs.laws.Range.{Range, Zeros}
+use Rattle.promise.specs.laws.Range.{Range}
 use Rattle.promise.specs.laws.Remaining.{Proper, RunsAt}
-use Rattle.records.specs.Ranges.{CountsIn, changingTest, countTest, inRange, runTest}
+use Rattle.records.specs.Ranges.{CountsIn, changingTest, countTest, inRange}
 use Rattle.records.specs.Record.{arraysIn, countsIn, stateIn, tasksIn}
 use Rattle.records.specs.declared.Dispatcher.{Dispatcher}
 use Rattle.records.specs.laws.Fields.{Fields, Long}

@@ -1,17 +1,16 @@
 -- What the loops over the arrays test, one after the other, is the test of a record's range.
 -- Assumes nothing.
-use mathlib.Core.Path.{_≡_, refl, sym, ap, ap₂, _∙_}
-use mathlib.Core.Bool.{Bool, true, false, cond, _&&_, true≢false}
+use mathlib.Core.Path.{_≡_, refl, sym, ap, _∙_}
+use mathlib.Core.Bool.{Bool, true, false, _&&_, true≢false}
 use Prim.Native.Nat.{ℕ, zero, suc, _-_, _/_, _%_, _≤_, _<_}
 use native.Mathlib.Decide.{decLt}
 use native.Mathlib.Omega.{arith}
-use lib.Dec.{leb, ltb, eqb}
+use lib.Dec.{leb, eqb}
 use lib.ListN.{getD}
 use Rattle.arrays.specs.Rules.{ticksOf}
 use Rattle.finite.specs.Finite.{Below, allTo}
 use Rattle.finite.specs.laws.Decided.{alike, both, by-test, every, restated, three, within-decides}
 use Rattle.finite.specs.laws.Tests.{Decides, and-both, by-cases, eqb-decides, leb-decides}
-use Rattle.model.specs.Arrays.{phaseAt}
 use Rattle.model.specs.Limits.{tasksMost}
 use Rattle.model.specs.Phase.{Choice}
 use Rattle.model.specs.Ranges.{InTable, phaseTest, tableTest, taskTest}
@@ -23,7 +22,7 @@ use Rattle.records.specs.Ranges.{changingTest, countTest, inRange, runTe
 use Rattle.records.specs.Record.{arraysIn, countsIn, stateIn, tasksIn}
 use Rattle.records.specs.declared.Dispatcher.{Dispatcher}
 use Rattle.records.specs.laws.Fields.{Long}
-use Rattle.records.specs.laws.InRange.{AbsentP, ChangingP, NowP, RunP, Within, any, changing-decides, itself, run-decides, untrue}
+use Rattle.records.specs.laws.InRange.{ChangingP, NowP, RunP, Within, changing-decides, itself, run-decides, untrue}
 use Rattle.records.specs.laws.Views.{due-of-views, dueTicks}
 
 -- ---- tests of every place

@@ -1,5 +1,4 @@
 -- `with_bit` meets its contract. Assumes nothing.
-use Prim.Native.Nat.{_-_}
 use native.Mathlib.Omega.{arith}
 use Rattle.arrays.specs.laws.Masks.{more-fits, one-shifted}
 use borrow.Author.Needs.{needs}
