@@ -8,6 +8,7 @@ use native.Mathlib.Omega.{arith}
 use borrow.Author.Tests.{lt-ltb, le-ltb, ltb-false}
 use lib.Dec.{ltb}
 use lib.ListN.{length, getD, drop}
+use Rattle.model.specs.Limits.{phasesMost, tasksMost}
 use Rattle.finite.specs.Finite.{anyTo}
 use Rattle.finite.specs.laws.Tests.{failed, le-or-lt, ltb-decides}
 use Rattle.finite.specs.laws.Searches.{any-decides}
@@ -21,38 +22,38 @@ use Rattle.writer.specs.Written.{phaseNumbers, taskNumbers, tableNumbers
 
 -- the test of the phases, for a table
 abbrev pub longTask : Table → Bool
-longTask t = anyTo (t .tasks) (λ i. ltb 8 (getD (t .phases) i 0))
+longTask t = anyTo (t .tasks) (λ i. ltb phasesMost (getD (t .phases) i 0))
 
 -- where no task has more than 8 phases
-pub few : (t : Table) → longTask t ≡ false → (i : ℕ) → i < t .tasks → getD (t .phases) i 0 ≤ 8
-few t e i h = go (le-or-lt (getD (t .phases) i 0) 8)
+pub few : (t : Table) → longTask t ≡ false → (i : ℕ) → i < t .tasks → getD (t .phases) i 0 ≤ phasesMost
+few t e i h = go (le-or-lt (getD (t .phases) i 0) phasesMost)
   where
-    go : (getD (t .phases) i 0 ≤ 8) ⊎ (8 < getD (t .phases) i 0) → getD (t .phases) i 0 ≤ 8
+    go : (getD (t .phases) i 0 ≤ phasesMost) ⊎ (phasesMost < getD (t .phases) i 0) → getD (t .phases) i 0 ≤ phasesMost
     go (inl l) = l
     go (inr l) =
         absurd
-        (failed (any-decides (t .tasks) (λ j. ltb 8 (getD (t .phases) j 0)) (λ j. 8 < getD (t .phases) j 0) (λ j _. ltb-decides 8 (getD (t .phases) j 0))) e (i, h, l))
+        (failed (any-decides (t .tasks) (λ j. ltb phasesMost (getD (t .phases) j 0)) (λ j. phasesMost < getD (t .phases) j 0) (λ j _. ltb-decides phasesMost (getD (t .phases) j 0))) e (i, h, l))
 
 -- a table that its arrays hold
 pub record Held (t : Table) : Type 0 where
-  pub tasks-most : t .tasks ≤ 32
-  pub phases-most : (i : ℕ) → i < t .tasks → getD (t .phases) i 0 ≤ 8
+  pub tasks-most : t .tasks ≤ tasksMost
+  pub phases-most : (i : ℕ) → i < t .tasks → getD (t .phases) i 0 ≤ phasesMost
 
 pub held : (t : Table) → overfull t ≡ false → Held t
 unfolding overfull
-held t e = go (ltb 32 (t .tasks)) refl (longTask t) refl e
+held t e = go (ltb tasksMost (t .tasks)) refl (longTask t) refl e
   where
-    go : (x : Bool) → ltb 32 (t .tasks) ≡ x → (y : Bool) → longTask t ≡ y → (x || y) ≡ false → Held t
+    go : (x : Bool) → ltb tasksMost (t .tasks) ≡ x → (y : Bool) → longTask t ≡ y → (x || y) ≡ false → Held t
     go true a y b e = absurd (true≢false e)
     go false a true b e = absurd (true≢false e)
-    go false a false b e = record { tasks-most = ltb-false 32 (t .tasks) a; phases-most = few t b }
+    go false a false b e = record { tasks-most = ltb-false tasksMost (t .tasks) a; phases-most = few t b }
 
 -- what the code's two tests leave
-pub arrays-hold : (t : Table) {found : Bool} → t .tasks ≤ 32 → found ≡ longTask t → found ≡ false → overfull t ≡ false
+pub arrays-hold : (t : Table) {found : Bool} → t .tasks ≤ tasksMost → found ≡ longTask t → found ≡ false → overfull t ≡ false
 unfolding overfull
-arrays-hold t h e f = rw (le-ltb 32 (t .tasks) h, sym e ∙ f)
+arrays-hold t h e f = rw (le-ltb tasksMost (t .tasks) h, sym e ∙ f)
 
-pub few-tasks : (t : Table) → overfull t ≡ false → t .tasks ≤ 32
+pub few-tasks : (t : Table) → overfull t ≡ false → t .tasks ≤ tasksMost
 few-tasks t e = held t e .tasks-most
 
 -- its phases have places in the arrays
@@ -60,7 +61,7 @@ pub phases-inside : (t : Table) (i : ℕ) → overfull t ≡ false → i < t .ta
 phases-inside t i e h = let k = held t e in omega (arith, k .tasks-most, k .phases-most i h)
 
 -- so few numbers can be measured: two a phase, and so at most 19 a task
-task-few : (t : Table) (i : ℕ) → getD (t .phases) i 0 ≤ 8 → length (taskNumbers t i) ≤ 19
+task-few : (t : Table) (i : ℕ) → getD (t .phases) i 0 ≤ phasesMost → length (taskNumbers t i) ≤ 19
 unfolding taskNumbers
 task-few t i h =
     let m = getD (t .phases) i 0 in
@@ -97,13 +98,13 @@ module _ (t : Table) (e : overfull t ≡ false) where
         room = le-ltb (length before) (length (tableBytes t)) (omega (arith, v .next-is, ap length (v .after-is)))
 
 module _ (t : Table) (before : List ℕ) where
-  pub many-tasks : 32 < t .tasks → Writes t before before OutOfRange
+  pub many-tasks : tasksMost < t .tasks → Writes t before before OutOfRange
   unfolding overfull
-  many-tasks h = record { result-is = rw (lt-ltb 32 (t .tasks) h); after-is = rw (lt-ltb 32 (t .tasks) h) }
+  many-tasks h = record { result-is = rw (lt-ltb tasksMost (t .tasks) h); after-is = rw (lt-ltb tasksMost (t .tasks) h) }
 
-  pub many-phases : {found : Bool} → t .tasks ≤ 32 → found ≡ longTask t → found ≡ true → Writes t before before OutOfRange
+  pub many-phases : {found : Bool} → t .tasks ≤ tasksMost → found ≡ longTask t → found ≡ true → Writes t before before OutOfRange
   unfolding overfull
-  many-phases h e f = record { result-is = rw (le-ltb 32 (t .tasks) h, sym e ∙ f); after-is = rw (le-ltb 32 (t .tasks) h, sym e ∙ f) }
+  many-phases h e f = record { result-is = rw (le-ltb tasksMost (t .tasks) h, sym e ∙ f); after-is = rw (le-ltb tasksMost (t .tasks) h, sym e ∙ f) }
 
 -- any two outcomes that the contract allows are equal
 pub one-outcome : {t : Table} {before after after′ : List ℕ} {r r′ : TableWritten} → Writes t before after r → Writes t before after′ r′ → (r ≡ r′) × (after ≡ after′)

@@ -1,5 +1,5 @@
 -- A valid table is written where there is room for it, and what was written is read back.
-use Prim.Native.Nat.{ℕ, _+_, _≤_, _<_}
+use Prim.Native.Nat.{ℕ, _≤_, _<_}
 use mathlib.Core.Path.{_≡_, ap, _∙_}
 use mathlib.Core.List.{List, _++_}
 use mathlib.Core.Bool.{Bool, true, false}
@@ -8,6 +8,7 @@ use borrow.Author.Tests.{le-ltb}
 use lib.Dec.{ltb}
 use lib.ListN.{length, getD, take, drop}
 use lib.Seq.{take-at}
+use Rattle.model.specs.Limits.{phasesMost, tasksMost}
 use Rattle.finite.specs.laws.Tests.{fails, ltb-decides}
 use Rattle.finite.specs.laws.Searches.{any-decides}
 use Rattle.finite.specs.If.{if_then_else_}
@@ -22,12 +23,12 @@ use Rattle.writer.proofs.RoundTrip.{table-round-trip}
 
 no-long-task : (t : Table) → Valid t → longTask t ≡ false
 no-long-task t v =
-    fails (any-decides (t .tasks) (λ i. ltb 8 (getD (t .phases) i 0)) (λ i. 8 < getD (t .phases) i 0) (λ i _. ltb-decides 8 (getD (t .phases) i 0)))
+    fails (any-decides (t .tasks) (λ i. ltb phasesMost (getD (t .phases) i 0)) (λ i. phasesMost < getD (t .phases) i 0) (λ i _. ltb-decides phasesMost (getD (t .phases) i 0)))
     (λ h. omega (arith, h .2, v .in-range .items .task (h .0) (h .1) .phases-most))
 
 pub not-overfull : (t : Table) → Valid t → overfull t ≡ false
 unfolding overfull
-not-overfull t v = rw (le-ltb 32 (t .tasks) (v .in-range .items .tasks), no-long-task t v)
+not-overfull t v = rw (le-ltb tasksMost (t .tasks) (v .in-range .items .tasks), no-long-task t v)
 
 -- a valid table is written where there is room
 pub valid-written : {t : Table} {before after : List ℕ} {r : TableWritten} → Valid t → length (tableBytes t) ≤ length before → Writes t before after r

@@ -7,6 +7,7 @@ use native.Mathlib.Nat.{add-zero, zero-add}
 use borrow.Author.Tests.{le-ltb}
 use lib.ListN.{length, getD, drop, length-drop}
 use lib.Seq.{drop-drop, drop-append-seam, drop-length}
+use Rattle.model.specs.Limits.{costMost, horizonMost, jobsMost, phasesMost, spacingMost, tasksMost, workMost}
 use Rattle.finite.specs.Finite.{joinTo}
 use Rattle.finite.specs.laws.Lists.{join-alike, join-from}
 use Rattle.groups.specs.Encode.{encode, encodeAll}
@@ -64,8 +65,8 @@ record Back (x : Result Table) (P : Table → Type 0) (s : List ℕ) (at : ℕ) 
   behind : drop next s ≡ r
 
 -- a task is read number by number, and then its phases
-task-is : {T D m a b c next : ℕ} (i : ℕ) (u : Table) {w : Table} (s : List ℕ) (at : ℕ) → numberIn 1 1_000_000_000 s at ≡ got T a → numberIn 1 T s a ≡ got D b
-    → numberIn 1 8 s b ≡ got m c → each phase m (8 * i) (withTask i T D m u) s c ≡ got w next → task i u s at ≡ got w next
+task-is : {T D m a b c next : ℕ} (i : ℕ) (u : Table) {w : Table} (s : List ℕ) (at : ℕ) → numberIn 1 spacingMost s at ≡ got T a → numberIn 1 T s a ≡ got D b
+    → numberIn 1 phasesMost s b ≡ got m c → each phase m (8 * i) (withTask i T D m u) s c ≡ got w next → task i u s at ≡ got w next
 unfolding task
 task-is i u s at p q r e = rw (p, q, r) e
 
@@ -102,8 +103,8 @@ module _ (t : Table) (v : Valid t) (s : List ℕ) where
       let c = getD (t .work) k 0 in
       let q = getD (t .cost) k 0 in
       let rest = phasesFrom left (k + 1) in
-      let a = number-back 1 10_000_000 c s at (q ∷ rest) r (omega arith) (omega arith) (omega arith) (rw (phase-more left k) at e) in
-      let b = number-back 0 10_000_000 q s (a .next) rest r (omega arith) (omega arith) (omega arith) (a .behind) in
+      let a = number-back 1 workMost c s at (q ∷ rest) r (omega arith) (omega arith) (omega arith) (rw (phase-more left k) at e) in
+      let b = number-back 0 costMost q s (a .next) rest r (omega arith) (omega arith) (omega arith) (a .behind) in
       let up′ : Upto t i (k + 1) (withPhase k c q u) = record {
         count = up .count;
         spacing = up .spacing;
@@ -162,9 +163,9 @@ module _ (t : Table) (v : Valid t) (s : List ℕ) where
       let D = getD (t .deadline) i 0 in
       let m = getD (t .phases) i 0 in
       let own = phasesFrom m (8 * i) in
-      let a = number-back 1 1_000_000_000 T s at (D ∷ m ∷ own) r (omega arith) (omega arith) (omega arith) e in
+      let a = number-back 1 spacingMost T s at (D ∷ m ∷ own) r (omega arith) (omega arith) (omega arith) e in
       let b = number-back 1 T D s (a .next) (m ∷ own) r (omega arith) (omega arith) (omega arith) (a .behind) in
-      let c = number-back 1 8 m s (b .next) own r (omega arith) (omega arith) (omega arith) (b .behind) in
+      let c = number-back 1 phasesMost m s (b .next) own r (omega arith) (omega arith) (omega arith) (b .behind) in
       let up′ : Upto t (i + 1) (8 * i) (withTask i T D m u) = record {
         count = up .count;
         spacing = put (up .spacing) (omega (arith, v .in-range .sized .spacing, v .in-range .items .tasks));
@@ -255,13 +256,13 @@ module _ (t : Table) (v : Valid t) (s : List ℕ) where
   -- The numbers of a valid table that stand at `at` are read back, and reading stops behind them.
   pub record Numbers (at : ℕ) : Type 0 where
     pub first : ℕ
-    pub count-is : numberIn 1 32 s at ≡ got (t .tasks) first
+    pub count-is : numberIn 1 tasksMost s at ≡ got (t .tasks) first
     pub tasks-are : each task (t .tasks) 0 (withCount (t .tasks) empty) s first ≡ got t (at + length (tableBytes t))
 
   pub numbers-back : (at : ℕ) (r : List ℕ) → drop at s ≡ tableBytes t ++ r → Numbers at
   numbers-back at r e =
       let rest = tasksFrom (t .tasks) 0 in
-      let a = number-back 1 32 (t .tasks) s at rest r (v .in-range .some-task) (v .in-range .items .tasks) (omega (arith, v .in-range .items .tasks)) (rw (← all-tasks) at e) in
+      let a = number-back 1 tasksMost (t .tasks) s at rest r (v .in-range .some-task) (v .in-range .items .tasks) (omega (arith, v .in-range .items .tasks)) (rw (← all-tasks) at e) in
       let b = tasks-back (t .tasks) 0 (withCount (t .tasks) empty) (a .next) r (omega arith) nothing-yet (a .behind) in
       record {
         first = a .next;
@@ -282,8 +283,8 @@ table-back t v s at e =
       n .count-is,
       n .tasks-are,
       nothing-back s (at + length (tableBytes t)) (sym (drop-drop (length (tableBytes t)) at s) ∙ ap (drop (length (tableBytes t))) e ∙ drop-length (tableBytes t)),
-      le-ltb 1_000_000_000_000 (horizonOf (tasksOf t)) (v .horizon-most),
-      le-ltb 1_000_000 (jobsWithin (tasksOf t) (horizonOf (tasksOf t))) (v .jobs-most),
+      le-ltb horizonMost (horizonOf (tasksOf t)) (v .horizon-most),
+      le-ltb jobsMost (jobsWithin (tasksOf t) (horizonOf (tasksOf t))) (v .jobs-most),
     )
 
 -- Reading a table's bytes gives the table back.

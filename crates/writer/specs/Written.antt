@@ -5,6 +5,7 @@ use mathlib.Core.Bool.{Bool, _||_}
 use mathlib.Core.Path.{_≡_}
 use lib.ListN.{length, getD, drop}
 use lib.Dec.{ltb}
+use Rattle.model.specs.Limits.{phasesMost, tasksMost}
 use Rattle.finite.specs.Finite.{anyTo, joinTo}
 use Rattle.finite.specs.If.{if_then_else_}
 use Rattle.groups.specs.Encode.{encodeAll}
@@ -31,7 +32,7 @@ tableBytes t = encodeAll (tableNumbers t)
 
 -- whether there are more than 32 tasks, or more than 8 phases in one of them: what a table's arrays do not hold
 unfoldable pub overfull : Table → Bool
-overfull t = ltb 32 (t .tasks) || anyTo (t .tasks) (λ i. ltb 8 (getD (t .phases) i 0))
+overfull t = ltb tasksMost (t .tasks) || anyTo (t .tasks) (λ i. ltb phasesMost (getD (t .phases) i 0))
 
 -- what writing a table into a buffer of so many bytes answers
 abbrev pub answerOf : Table → (room : ℕ) → TableWritten

@@ -8,6 +8,7 @@ ghost use mathlib.Core.Path.{_≡_};
 ghost use Prim.Native.Nat.{_+_, _*_, _≤_, _<_};
 ghost use lib.Dec.{ltb};
 ghost use lib.ListN.{length, getD};
+ghost use Rattle.model.specs.Limits.{phasesMost, tasksMost};
 ghost use Rattle.finite.specs.Finite.{anyTo, joinTo};
 ghost use Rattle.groups.specs.Pass.{Fits, Passed};
 ghost use Rattle.writer.specs.Written.{phaseNumbers, taskNumbers, tableNumbers, overfull, Writes};
@@ -91,7 +92,7 @@ fn task<'a>(
 
 // The tasks; the arrays have 32 places, and 8 for the phases of a task.
 fn tasks(out: &mut [u8], at: usize, table: Table, put: bool) -> usize
-    requires { ⌜ (table .tasks ≤ 32) × (overfull table ≡ false) × Fits put (now out) at (joinTo (table .tasks) (taskNumbers table)) ⌝ }
+    requires { ⌜ (table .tasks ≤ tasksMost) × (overfull table ≡ false) × Fits put (now out) at (joinTo (table .tasks) (taskNumbers table)) ⌝ }
     ensures { λ r. ⌜ Passed put (now (out .entry)) (now (out .exit)) at r (joinTo (table .tasks) (taskNumbers table)) ⌝ }
 {
     let mut next = at;
@@ -115,17 +116,17 @@ fn tasks(out: &mut [u8], at: usize, table: Table, put: bool) -> usize
 
 // The whole table: the number of tasks, and the tasks.
 fn numbers(out: &mut [u8], table: Table, put: bool) -> usize
-    requires { ⌜ (table .tasks ≤ 32) × (overfull table ≡ false) × Fits put (now out) 0 (tableNumbers table) ⌝ }
+    requires { ⌜ (table .tasks ≤ tasksMost) × (overfull table ≡ false) × Fits put (now out) 0 (tableNumbers table) ⌝ }
     ensures { λ r. ⌜ Passed put (now (out .entry)) (now (out .exit)) 0 r (tableNumbers table) ⌝ }
 {
     let at = number(out, 0, table.tasks as u32, put);
     tasks(out, at, table, put)
 }
 
-// Whether one of the first `count` tasks has more than 8 phases; the array has 32 places.
+// Whether one of the first `count` tasks has more phases than a task may have; the array has a place for each task.
 fn long_task(phases: &[u32; 32], count: usize) -> bool
-    requires { ⌜ count ≤ 32 ⌝ }
-    ensures { λ r. ⌜ r ≡ anyTo count (λ i. ltb 8 (getD (now (phases .entry)) i 0)) ⌝ }
+    requires { ⌜ count ≤ tasksMost ⌝ }
+    ensures { λ r. ⌜ r ≡ anyTo count (λ i. ltb phasesMost (getD (now (phases .entry)) i 0)) ⌝ }
 {
     let mut found = false;
     let mut i: usize = 0;

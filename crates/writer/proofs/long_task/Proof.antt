@@ -7,12 +7,13 @@ use borrow.Author.Needs.{needs}
 use denote.Ref.{now}
 use lib.Dec.{ltb}
 use lib.ListN.{getD}
+use Rattle.model.specs.Limits.{phasesMost}
 use Rattle.finite.specs.Finite.{anyTo}
 use Rattle.writer.proofs.long_task.Statement.{statement}
 use Rattle.writer.proofs.long_task.Tie as tie
 
 abbrev Inv-loop : tie.InvT-loop
-Inv-loop phases count found₀ i₀ found i = (found ≡ anyTo i (λ i. ltb 8 (getD phases i 0))) × (i ≤ count)
+Inv-loop phases count found₀ i₀ found i = (found ≡ anyTo i (λ i. ltb phasesMost (getD phases i 0))) × (i ≤ count)
 
 abbrev μ-loop : tie.MeasureT-loop
 μ-loop phases count found₀ i₀ found i = count - i
@@ -44,7 +45,7 @@ returns : tie.Need-returns Inv-loop μ-loop
 returns c =
     let l = c .before .loop in
     let e : l .i ≡ c .before .before .args .count = omega arith in
-    l .inv .0 ∙ ap (λ n. anyTo n (λ i. ltb 8 (getD (now (c .before .before .args .phases)) i 0))) e
+    l .inv .0 ∙ ap (λ n. anyTo n (λ i. ltb phasesMost (getD (now (c .before .before .args .phases)) i 0))) e
 
 pub long-task-spec : {M : Type 1} → statement M
 long-task-spec =
