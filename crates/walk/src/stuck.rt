@@ -8,6 +8,7 @@ ghost use mathlib.Core.Path.{_≡_};
 ghost use Prim.Native.Nat.{_+_, _-_, _≤_, _<_};
 ghost use lib.ListN.{getD};
 ghost use Rattle.finite.specs.Finite.{Below};
+ghost use Rattle.model.specs.Limits.{phasesMost};
 ghost use Rattle.pieces.specs.Held.{phasesIn};
 ghost use Rattle.walk.specs.Stuck.{BeforeStop, FirstWhere, PointJudged, Stuck};
 ghost use Rattle.walk.specs.Take.{arraysIn};
@@ -20,7 +21,7 @@ fn lacking<'a>(
     c: &'a [u32; 256],
     q: &'a [u32; 256],
 ) -> usize
-    requires { ⌜ (i < 32) × (getD (now m) i 0 ≤ 8) ⌝ }
+    requires { ⌜ (i < 32) × (getD (now m) i 0 ≤ phasesMost) ⌝ }
     ensures { λ r. ⌜ FirstWhere (getD (now (m .entry)) i 0) (λ j. phasesIn (now (c .entry)) (now (q .entry)) .room i j margin ≡ false) r ⌝ }
 {
     let many = size(m[i]);
@@ -45,7 +46,7 @@ fn stuck_phase<'a>(
     c: &'a [u32; 256],
     q: &'a [u32; 256],
 ) -> usize
-    requires { ⌜ (i < 32) × (getD (now m) i 0 ≤ 8) ⌝ }
+    requires { ⌜ (i < 32) × (getD (now m) i 0 ≤ phasesMost) ⌝ }
     ensures { λ r. ⌜ FirstWhere (getD (now (m .entry)) i 0) (Stuck (arraysIn 0 [] (now (d .entry)) (now (m .entry)) (now (c .entry)) (now (q .entry))) t margin i) r ⌝ }
 {
     if wide(d[i]) <= t {
@@ -71,7 +72,7 @@ fn first_stuck<'a>(
     c: &'a [u32; 256],
     q: &'a [u32; 256],
 ) -> Stop
-    requires { ⌜ (demand ≤ t) × (n ≤ 32) × Below n (λ i. getD (now m) i 0 ≤ 8) ⌝ }
+    requires { ⌜ (demand ≤ t) × (n ≤ 32) × Below n (λ i. getD (now m) i 0 ≤ phasesMost) ⌝ }
     ensures { λ r. ⌜ PointJudged (arraysIn n [] (now (d .entry)) (now (m .entry)) (now (c .entry)) (now (q .entry))) t demand (r .stops) (r .task) (r .phase) ⌝ }
 {
     let margin = t - demand;

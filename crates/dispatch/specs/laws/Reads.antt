@@ -5,6 +5,7 @@ use mathlib.Core.Bool.{true}
 use Prim.Native.Nat.{ℕ, _≤_, _<_}
 use lib.ListN.{getD}
 use Rattle.finite.specs.Finite.{Below}
+use Rattle.model.specs.Limits.{phasesMost, tasksMost}
 use Rattle.model.specs.Phase.{Choice}
 use Rattle.model.specs.Tasks.{Tasks}
 use Rattle.promise.specs.Rules.{State}
@@ -27,10 +28,10 @@ module _ (d : Dispatcher) (f : Fields d) where
   pub ranged : Below (d .tasks) (Ranged (tasksIn d) (countsIn d))
   ranged = table-ranged (tasksIn d) (countsIn d) (f .table)
 
-  pub few : d .tasks ≤ 32
+  pub few : d .tasks ≤ tasksMost
   few = f .table .table .tasks
 
-  pub few-phases : (i : ℕ) → i < d .tasks → getD (d .phases) i 0 ≤ 8
+  pub few-phases : (i : ℕ) → i < d .tasks → getD (d .phases) i 0 ≤ phasesMost
   few-phases i l = f .table .table .task i l .phases-most
 
   -- its own state is one that the rules keep
