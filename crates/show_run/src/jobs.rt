@@ -1,4 +1,6 @@
 // What becomes of each task's jobs in a run.
+ghost use mathlib.Core.Path.{_≡_};
+ghost use Prim.Native.Nat.{_+_, _%_, _^_};
 
 // Of each task the jobs let in and finished, the tick of the last release and the worst response.
 pub struct Tally {
@@ -19,7 +21,9 @@ pub fn none() -> Tally {
 }
 
 // Numbers of ticks, jobs and bytes never come near 2^64; nothing here proves it, so the sum is one that may wrap.
-pub fn sum(a: u64, b: u64) -> u64 {
+pub fn sum(a: u64, b: u64) -> u64
+    ensures { λ r. ⌜ r ≡ (a + b) % 2 ^ 64 ⌝ }
+{
     std::num::wrapping_add_u64(a, b)
 }
 
