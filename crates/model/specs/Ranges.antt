@@ -1,13 +1,52 @@
--- DEFINITIONS. Document 01, "Bytes of table and answer": the range of each item of a table. What is asked, and the test that computes it.
+-- DEFINITIONS. Document 01, "Bytes of table and answer": the range of each item of a table. The limits, what is asked, and the test that computes it.
 -- Assumes nothing.
 use mathlib.Core.Path.{_≡_}
 use mathlib.Core.Bool.{Bool, _&&_}
+use mathlib.Core.List.{List, [], _∷_}
 use Prim.Native.Nat.{ℕ, _/_, _%_, _≤_}
 use lib.Dec.{leb, ltb, eqb}
 use Rattle.finite.specs.Finite.{Below, allTo}
 use Rattle.finite.specs.If.{if_then_else_}
-use Rattle.model.specs.Limits.{costMost, phasesMost, spacingMost, tasksMost, workMost}
 use Rattle.model.specs.Tasks.{Each, Tasks}
+
+-- ---- the most of each item (the least is 1, of q 0; the most of D is T)
+
+-- tasks
+abbrev pub tasksMost : ℕ
+tasksMost = 32
+
+-- T
+abbrev pub spacingMost : ℕ
+spacingMost = 1_000_000_000
+
+-- phases in a task
+abbrev pub phasesMost : ℕ
+phasesMost = 8
+
+-- c
+abbrev pub workMost : ℕ
+workMost = 10_000_000
+
+-- q
+abbrev pub costMost : ℕ
+costMost = 10_000_000
+
+-- H
+abbrev pub horizonMost : ℕ
+horizonMost = 1_000_000_000_000
+
+-- the sum of H/T over the tasks
+abbrev pub jobsMost : ℕ
+jobsMost = 1_000_000
+
+-- a least and a most
+pub record FromTo : Type 0 where
+  pub least : ℕ
+  pub most : ℕ
+
+-- the numbers of a phase, in the order of their bytes: c, q
+abbrev pub phaseNumbers : List FromTo
+phaseNumbers = record { least = 1; most = workMost } ∷ record { least = 0; most = costMost } ∷ []
 
 -- ---- what is asked
 
@@ -56,12 +95,18 @@ taskTest S i =
     then within 1 spacingMost (S .T i) && within 1 (S .T i) (S .D i) && within 1 phasesMost (S .m i)
     else eqb (S .T i) 0 && eqb (S .D i) 0 && eqb (S .m i) 0
 
-abbrev pub phaseTest : Tasks → ℕ → ℕ → Bool
-phaseTest S i j =
-    if ltb j (S .m i)
-    then within 1 workMost (S .c i j) && leb (S .q i j) costMost
-    else eqb (S .c i j) 0 && eqb (S .q i j) 0
+-- a number of phase j of task i, where task i has m i phases; 0 where there is no such phase
+abbrev pub numberTest : (m : ℕ → ℕ) → (least most : ℕ) → (ℕ → ℕ → ℕ) → ℕ → ℕ → Bool
+numberTest m least most f i j = if ltb j (m i) then within least most (f i j) else eqb (f i j) 0
 
--- of the 32 places for tasks, and the 256 for phases
+-- of the 256 places for phases
+abbrev pub allPhases : (ℕ → ℕ → Bool) → Bool
+allPhases f = allTo 256 (λ p. f (p / 8) (p % 8))
+
+-- the tasks, and each number of the phases
 unfoldable pub tableTest : Tasks → Bool
-tableTest S = leb (S .n) tasksMost && allTo 32 (taskTest S) && allTo 256 (λ p. phaseTest S (p / 8) (p % 8))
+tableTest S =
+    leb (S .n) tasksMost &&
+    allTo 32 (taskTest S) &&
+    allPhases (numberTest (S .m) 1 workMost (S .c)) &&
+    allPhases (numberTest (S .m) 0 costMost (S .q))

@@ -4,9 +4,8 @@ use mathlib.Core.Path.{_≡_}
 use mathlib.Core.Bool.{true}
 use Prim.Native.Nat.{ℕ, _≤_, _<_}
 use Rattle.finite.specs.Finite.{Below}
-use Rattle.model.specs.Limits.{costMost, horizonMost, phasesMost, tasksMost, workMost}
 use Rattle.model.specs.Phase.{Choice, hasRoom, phasesOf}
-use Rattle.model.specs.Ranges.{PhaseIn}
+use Rattle.model.specs.Ranges.{PhaseIn, costMost, horizonMost, phasesMost, tasksMost, workMost}
 use Rattle.model.specs.Tasks.{Tasks}
 
 -- what `need` and `brought` ask of a phase's numbers

@@ -8,7 +8,7 @@ ghost use Prim.Native.Nat.{_≤_, _<_};
 ghost use lib.ListN.{getD};
 ghost use Rattle.finite.specs.Finite.{Below, listTo};
 ghost use Rattle.model.specs.Arrays.{phaseAt};
-ghost use Rattle.model.specs.Limits.{workMost};
+ghost use Rattle.model.specs.Ranges.{workMost};
 ghost use Rattle.pieces.specs.Bounds.{pieceMost};
 ghost use Rattle.pieces.specs.Counts.{countAt, longestAt};
 ghost use Rattle.pieces.specs.Held.{held};

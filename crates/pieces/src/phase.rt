@@ -7,7 +7,7 @@ use crate::numbers::wide;
 ghost use mathlib.Core.Path.{_≡_};
 ghost use mathlib.Core.Bool.{true};
 ghost use Prim.Native.Nat.{_+_, _*_, _≤_, _<_};
-ghost use Rattle.model.specs.Limits.{costMost, horizonMost, workMost};
+ghost use Rattle.model.specs.Ranges.{costMost, horizonMost, workMost};
 ghost use Rattle.model.specs.Phase.{hasRoom, longestPiece, needed, pieceLength};
 ghost use Rattle.pieces.specs.Bounds.{phaseMost};
 ghost use Rattle.pieces.specs.Task.{PhaseFits};

@@ -9,7 +9,7 @@ ghost use mathlib.Core.Bool.{true};
 ghost use mathlib.Core.Path.{_≡_};
 ghost use Prim.Native.Nat.{_+_, _*_, _≤_, _<_};
 ghost use Rattle.model.specs.Arrays.{phaseAt};
-ghost use Rattle.model.specs.Limits.{horizonMost, phasesMost, tasksMost};
+ghost use Rattle.model.specs.Ranges.{horizonMost, phasesMost, tasksMost};
 ghost use Rattle.model.specs.Phase.{phasesOf};
 ghost use Rattle.model.specs.Works as works;
 ghost use Rattle.pieces.specs.Bounds.{phaseMost, pieceMost};

@@ -12,8 +12,7 @@ use Rattle.model.specs.Arrays.{Arrays, asTasks, phaseAt}
 use Rattle.finite.specs.Finite.{allTo}
 use Rattle.finite.specs.laws.Decided.{alike, both, restated, within-decides}
 use Rattle.finite.specs.laws.Tests.{eqb-decides, leb-decides}
-use Rattle.model.specs.Limits.{costMost, tasksMost, workMost}
-use Rattle.model.specs.Ranges.{phaseTest, taskTest, within}
+use Rattle.model.specs.Ranges.{costMost, phaseTest, taskTest, tasksMost, within, workMost}
 use Rattle.model.specs.laws.Arrays.{phase-place}
 use Rattle.records.specs.Ranges.{countTest}
 

@@ -13,7 +13,7 @@ use Rattle.finite.specs.If.{if_then_else_}
 use Rattle.groups.specs.declared.Number.{Number}
 use Rattle.groups.specs.declared.Number.the-variants.{Value, Ends, Malformed}
 use Rattle.groups.specs.Number.{numberAt}
-use Rattle.model.specs.Limits.{costMost, phasesMost, spacingMost, tasksMost, workMost}
+use Rattle.model.specs.Ranges.{costMost, phasesMost, spacingMost, tasksMost, workMost}
 use Rattle.table.specs.declared.Table.{Table}
 use Rattle.table.specs.declared.ParseOutcome.the-variants.{Parsed, TurnedAway}
 use Rattle.table.specs.declared.Parsing.{Parsing}

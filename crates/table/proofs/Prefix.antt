@@ -12,7 +12,7 @@ use lib.ListN.{length, getD, take}
 use lib.Seq.{length-take-le, getD-take}
 use Rattle.finite.specs.laws.Tests.{le-or-lt}
 use Rattle.finite.specs.If.{if_then_else_}
-use Rattle.model.specs.Limits.{costMost, horizonMost, jobsMost, phasesMost, spacingMost, tasksMost, workMost}
+use Rattle.model.specs.Ranges.{costMost, horizonMost, jobsMost, phasesMost, spacingMost, tasksMost, workMost}
 use Rattle.groups.specs.declared.Number.{Number}
 use Rattle.groups.specs.declared.Number.the-variants.{Value, Ends, Malformed}
 use Rattle.groups.specs.Number.{inFront, groups, numberAt}

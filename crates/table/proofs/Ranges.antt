@@ -9,7 +9,7 @@ use lib.Dec.{ltb}
 use borrow.Author.Tests.{lt-ltb, le-ltb}
 use Rattle.finite.specs.Finite.{sumTo}
 use Rattle.finite.specs.If.{if_then_else_}
-use Rattle.model.specs.Limits.{horizonMost, jobsMost}
+use Rattle.model.specs.Ranges.{horizonMost, jobsMost}
 use Rattle.model.specs.TestPoints.{lcmTo, horizonOf}
 use Rattle.model.specs.laws.Lcm.{lcmTo-ok}
 use Rattle.table.specs.declared.Table.{Table}

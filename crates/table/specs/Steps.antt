@@ -5,7 +5,7 @@ use mathlib.Core.Path.{_≡_}
 use mathlib.Core.List.{List}
 use lib.Dec.{eqb}
 use Rattle.finite.specs.If.{if_then_else_}
-use Rattle.model.specs.Limits.{phasesMost, tasksMost}
+use Rattle.model.specs.Ranges.{phasesMost, tasksMost}
 use Rattle.groups.specs.declared.Number.the-variants.{Value}
 use Rattle.table.specs.declared.Table.{Table}
 use Rattle.table.specs.declared.items.Found.{Found}

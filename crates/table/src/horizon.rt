@@ -4,7 +4,7 @@ ghost use mathlib.Core.Path.{_≡_};
 ghost use Prim.Native.Nat.{_/_, _≤_, _<_};
 ghost use lib.ListN.{getD};
 ghost use Rattle.finite.specs.Finite.{sumTo};
-ghost use Rattle.model.specs.Limits.{horizonMost};
+ghost use Rattle.model.specs.Ranges.{horizonMost};
 ghost use Rattle.model.specs.TestPoints.{gcd, lcm, lcmTo};
 ghost use Rattle.table.specs.Horizon.{zeroAbove, Spacings};
 

@@ -9,7 +9,7 @@ use lib.Dec.{eqb}
 use Rattle.finite.specs.Finite.{sumTo}
 use Rattle.finite.specs.If.{if_then_else_}
 use Rattle.model.specs.Arrays.{Arrays}
-use Rattle.model.specs.Limits.{tasksMost}
+use Rattle.model.specs.Ranges.{tasksMost}
 use Rattle.model.specs.Phase.{phasesOf}
 use Rattle.pieces.specs.Bounds.{budgetMost}
 use Rattle.pieces.specs.Held.{held, needs, phasesIn}

@@ -8,7 +8,7 @@ use lib.ListN.{length, getD}
 use lib.Dec.{eqb}
 use Rattle.finite.specs.If.{if_then_else_}
 use Rattle.model.specs.Arrays.{Arrays}
-use Rattle.model.specs.Limits.{horizonMost, spacingMost}
+use Rattle.model.specs.Ranges.{horizonMost, spacingMost}
 
 -- what a next deadline may be while points up to the horizon are taken
 abbrev pub nextMost : ℕ

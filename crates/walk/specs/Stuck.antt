@@ -6,7 +6,7 @@ use Prim.Native.Nat.{ℕ, _+_, _-_, _≤_, _<_}
 use lib.ListN.{getD}
 use Rattle.finite.specs.Finite.{Below}
 use Rattle.model.specs.Arrays.{Arrays}
-use Rattle.model.specs.Limits.{phasesMost, tasksMost}
+use Rattle.model.specs.Ranges.{phasesMost, tasksMost}
 use Rattle.pieces.specs.Held.{phasesIn}
 
 -- r is the first index below n at which P holds, or n where there is none

@@ -8,7 +8,7 @@ ghost use mathlib.Core.Path.{_≡_};
 ghost use Prim.Native.Nat.{_+_, _-_, _≤_, _<_};
 ghost use lib.ListN.{getD};
 ghost use Rattle.finite.specs.Finite.{Below};
-ghost use Rattle.model.specs.Limits.{phasesMost};
+ghost use Rattle.model.specs.Ranges.{phasesMost};
 ghost use Rattle.pieces.specs.Held.{phasesIn};
 ghost use Rattle.walk.specs.Stuck.{BeforeStop, FirstWhere, PointJudged, Stuck};
 ghost use Rattle.walk.specs.Take.{arraysIn};

@@ -8,7 +8,7 @@ use native.Mathlib.Omega.{arith}
 use borrow.Author.Tests.{lt-ltb, le-ltb, ltb-false}
 use lib.Dec.{ltb}
 use lib.ListN.{length, getD, drop}
-use Rattle.model.specs.Limits.{phasesMost, tasksMost}
+use Rattle.model.specs.Ranges.{phasesMost, tasksMost}
 use Rattle.finite.specs.Finite.{anyTo}
 use Rattle.finite.specs.laws.Tests.{failed, le-or-lt, ltb-decides}
 use Rattle.finite.specs.laws.Searches.{any-decides}

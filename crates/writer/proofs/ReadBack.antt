@@ -8,7 +8,7 @@ use borrow.Author.Tests.{le-ltb}
 use lib.Dec.{ltb}
 use lib.ListN.{length, getD, take, drop}
 use lib.Seq.{take-at}
-use Rattle.model.specs.Limits.{phasesMost, tasksMost}
+use Rattle.model.specs.Ranges.{phasesMost, tasksMost}
 use Rattle.finite.specs.laws.Tests.{fails, ltb-decides}
 use Rattle.finite.specs.laws.Searches.{any-decides}
 use Rattle.finite.specs.If.{if_then_else_}

@@ -7,7 +7,7 @@ use native.Mathlib.Nat.{add-zero, zero-add}
 use borrow.Author.Tests.{le-ltb}
 use lib.ListN.{length, getD, drop, length-drop}
 use lib.Seq.{drop-drop, drop-append-seam, drop-length}
-use Rattle.model.specs.Limits.{costMost, horizonMost, jobsMost, phasesMost, spacingMost, tasksMost, workMost}
+use Rattle.model.specs.Ranges.{costMost, horizonMost, jobsMost, phasesMost, spacingMost, tasksMost, workMost}
 use Rattle.finite.specs.Finite.{joinTo}
 use Rattle.finite.specs.laws.Lists.{join-alike, join-from}
 use Rattle.groups.specs.Encode.{encode, encodeAll}

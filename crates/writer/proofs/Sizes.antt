@@ -7,7 +7,7 @@ use Rattle.finite.specs.Finite.{joinTo}
 use Rattle.groups.specs.Encode.{encodeAll}
 use Rattle.groups.proofs.Numbers.{cons, join-short, none}
 use Rattle.groups.proofs.Writing.{short}
-use Rattle.model.specs.Limits.{costMost, workMost}
+use Rattle.model.specs.Ranges.{costMost, workMost}
 use Rattle.model.specs.laws.Arrays.{phase-at}
 use Rattle.table.specs.declared.Table.{Table}
 use Rattle.table.specs.Valid.{Valid}

@@ -5,7 +5,7 @@ use mathlib.Core.Bool.{Bool, _||_}
 use mathlib.Core.Path.{_≡_}
 use lib.ListN.{length, getD, drop}
 use lib.Dec.{ltb}
-use Rattle.model.specs.Limits.{phasesMost, tasksMost}
+use Rattle.model.specs.Ranges.{phasesMost, tasksMost}
 use Rattle.finite.specs.Finite.{anyTo, joinTo}
 use Rattle.finite.specs.If.{if_then_else_}
 use Rattle.groups.specs.Encode.{encodeAll}

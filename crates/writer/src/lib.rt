@@ -8,7 +8,7 @@ ghost use mathlib.Core.Path.{_≡_};
 ghost use Prim.Native.Nat.{_+_, _*_, _≤_, _<_};
 ghost use lib.Dec.{ltb};
 ghost use lib.ListN.{length, getD};
-ghost use Rattle.model.specs.Limits.{phasesMost, tasksMost};
+ghost use Rattle.model.specs.Ranges.{phasesMost, tasksMost};
 ghost use Rattle.finite.specs.Finite.{anyTo, joinTo};
 ghost use Rattle.groups.specs.Pass.{Fits, Passed};
 ghost use Rattle.writer.specs.Written.{phaseNumbers, taskNumbers, tableNumbers, overfull, Writes};

@@ -5,7 +5,7 @@ use mathlib.Core.Bool.{true}
 use Prim.Native.Nat.{ℕ, _≤_, _<_}
 use lib.ListN.{getD}
 use Rattle.finite.specs.Finite.{Below}
-use Rattle.model.specs.Limits.{phasesMost, tasksMost}
+use Rattle.model.specs.Ranges.{phasesMost, tasksMost}
 use Rattle.model.specs.Phase.{Choice}
 use Rattle.model.specs.Tasks.{Tasks}
 use Rattle.promise.specs.Rules.{State}

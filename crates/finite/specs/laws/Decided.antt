@@ -16,6 +16,11 @@ restated f g d = (λ e. f (d .0 e), λ q. d .1 (g q))
 pub both : {a b : Bool} {P Q : Type 0} → Decides a P → Decides b Q → Decides (a && b) (P × Q)
 both {a} {b} p q = and-decides a b p q
 
+-- a second test need decide only where the first passes
+pub under : (a : Bool) {b : Bool} {P Q : Type 0} → Decides a P → (P → Decides b Q) → Decides (a && b) (P × Q)
+under true p q = (λ e. (p .0 refl, q (p .0 refl) .0 e), λ h. q (h .0) .1 (h .1))
+under false p q = (λ e. absurd (true≢false (sym e)), λ h. absurd (true≢false (sym (p .1 (h .0)))))
+
 pub three : {a b c : Bool} {P Q R : Type 0} → Decides a P → Decides b Q → Decides c R → Decides (a && b && c) (P × Q × R)
 three p q r = restated (λ t. (t .0 .0, t .0 .1, t .1)) (λ t. ((t .0, t .1), t .2)) (both (both p q) r)
 

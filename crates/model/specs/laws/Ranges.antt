@@ -1,42 +1,20 @@
--- The test of a table decides its range, where arrays of the right sizes hold the table.
+-- The range of a table, number by number: its test decides it; the arrays of a table in range hold that table; a number put in its range is in it.
 -- Assumes nothing.
-use mathlib.Core.Path.{_≡_, refl, sym, ap₂, _∙_, subst}
-use mathlib.Core.Bool.{Bool, true, false, _&&_, true≢false}
+use mathlib.Core.Path.{_≡_, refl, sym, _∙_}
 use mathlib.Core.List.{List}
 use Prim.Native.Nat.{ℕ, _+_, _*_, _/_, _%_, _≤_, _<_}
 use native.Mathlib.Decide.{decLt}
 use native.Mathlib.Omega.{arith}
-use lib.Dec.{ltb}
-use lib.ListN.{length, getD, List·getD-eq-default}
-use Rattle.finite.specs.Finite.{Below, allTo}
-use Rattle.finite.specs.laws.Decided.{both, by-test, every, restated, three, within-decides}
-use Rattle.finite.specs.laws.Tests.{Decides, by-cases, cond-false, cond-true, eqb-decides, leb-decides, ltb-decides}
-use Rattle.model.specs.Arrays.{Arrays, Sized, asTasks, phaseAt}
-use Rattle.model.specs.Limits.{costMost, phasesMost, spacingMost, tasksMost, workMost}
-use Rattle.model.specs.Ranges.{InTable, NoPhase, NoTask, PhaseIn, TaskIn, phaseTest, tableTest, taskTest}
+use lib.ListN.{length, getD, length-set}
+use Rattle.finite.specs.Finite.{Below}
+use Rattle.finite.specs.laws.Decided.{both, by-test, every, restated, three, under, within-decides}
+use Rattle.finite.specs.laws.Lists.{length-list, list-of}
+use Rattle.finite.specs.laws.Tests.{Decides, eqb-decides, leb-decides, ltb-decides}
+use Rattle.model.specs.Arrays.{Arrays, Sized, arraysFrom, asTasks, emptyArrays, withCount, withPhase, withTask}
+use Rattle.model.specs.Ranges.{InTable, NoPhase, NoTask, PhaseIn, TaskIn, costMost, phaseNumbers, phasesMost, spacingMost, tableTest, taskTest, tasksMost, workMost}
 use Rattle.model.specs.Tasks.{Each, Tasks}
-use Rattle.model.specs.laws.Arrays.{phase-none}
-
--- a second test need decide only where the first passes
-pub under : (a : Bool) {b : Bool} {P Q : Type 0} → Decides a P → (P → Decides b Q) → Decides (a && b) (P × Q)
-under true p q = (λ e. (p .0 refl, q (p .0 refl) .0 e), λ h. q (h .0) .1 (h .1))
-under false p q = (λ e. absurd (true≢false (sym e)), λ h. absurd (true≢false (sym (p .1 (h .0)))))
-
--- ---- places beyond the arrays
-
-pub beyond : (l : List ℕ) (n i : ℕ) → length l ≡ n → n ≤ i → getD l i 0 ≡ 0
-beyond l n i e h = List·getD-eq-default l 0 (omega arith)
-
-pub phase-past : (a : List ℕ) (i j : ℕ) → length a ≡ 256 → 32 ≤ i → phaseAt a i j ≡ 0
-phase-past a i j e h = by-cases (ltb j 8) (λ t. cond-true (ltb j 8) _ 0 t ∙ beyond a 256 (8 * i + j) e (omega arith)) (λ f. cond-false (ltb j 8) (getD a (8 * i + j) 0) 0 f)
-
--- what holds of every place holds of every phase of every task
-phases-from : (P : ℕ → ℕ → Type 0) → Below 256 (λ p. P (p / 8) (p % 8)) → (i j : ℕ) → i < 32 → j < 8 → P i j
-phases-from P f i j l k =
-    let q : (8 * i + j) / 8 ≡ i = omega arith in
-    let r : (8 * i + j) % 8 ≡ j = omega arith in
-    let e : P ((8 * i + j) / 8) ((8 * i + j) % 8) ≡ P i j = ap₂ P q r in
-    subst (λ T. T) e (f (8 * i + j) (omega arith))
+use Rattle.model.specs.laws.Arrays.{beyond, phase-else, phase-here, phases-of, task-else, task-here, zeros, zeros-phase}
+use Rattle.model.specs.laws.Places.{AllIn, Few, at-task, at-used, number-decides, number-in}
 
 -- ---- the tasks
 
@@ -59,56 +37,6 @@ task-decides S i =
     (λ t. (t .no-spacing, t .no-deadline, t .no-phases))
     (three (eqb-decides (S .T i) 0) (eqb-decides (S .D i) 0) (eqb-decides (S .m i) 0)))
 
--- the numbers of phases of a table
-pub record Few (S : Tasks) : Type 0 where
-  pub tasks : S .n ≤ tasksMost
-  pub phases : (i : ℕ) → S .m i ≤ phasesMost
-  pub none : (i : ℕ) → S .n ≤ i → S .m i ≡ 0
-
--- ---- a test of every place of an array of 256, by whether the place is used
-
-pub places-decide : (S : Tasks) → Few S → (f : ℕ → ℕ → Bool) (U N : ℕ → ℕ → Type 0)
-    → ((i j : ℕ) → Decides (f i j) ((j < S .m i → U i j) × (¬ (j < S .m i) → N i j)))
-    → ((i j : ℕ) → 32 ≤ i → N i j) → ((i j : ℕ) → 8 ≤ j → N i j)
-    → Decides (allTo 256 (λ p. f (p / 8) (p % 8))) (Each S U × ((i j : ℕ) → S .m i ≤ j → N i j))
-places-decide S few f U N test past over =
-    restated from to (every 256 (λ p. f (p / 8) (p % 8)) (λ p. P (p / 8) (p % 8)) (λ p. test (p / 8) (p % 8)))
-  where
-    P : ℕ → ℕ → Type 0
-    P i j = (j < S .m i → U i j) × (¬ (j < S .m i) → N i j)
-
-    from : Below 256 (λ p. P (p / 8) (p % 8)) → Each S U × ((i j : ℕ) → S .m i ≤ j → N i j)
-    from h = (
-      λ i j l k. phases-from P h i j (omega (arith, few .tasks)) (omega (arith, few .phases i)) .0 k,
-      λ i j l. unused i j l (decLt i 32) (decLt j 8),
-    )
-      where
-        unused : (i j : ℕ) → S .m i ≤ j → Dec (i < 32) → Dec (j < 8) → N i j
-        unused i j l (yes a) (yes b) = phases-from P h i j a b .1 (λ k. absurd (omega arith))
-        unused i j l (yes a) (no b) = over i j (omega arith)
-        unused i j l (no a) b = past i j (omega arith)
-
-    to : Each S U × ((i j : ℕ) → S .m i ≤ j → N i j) → Below 256 (λ p. P (p / 8) (p % 8))
-    to h p l = (λ k. h .0 (p / 8) (p % 8) (there (p / 8) k (decLt (p / 8) (S .n))) k, λ k. h .1 (p / 8) (p % 8) (omega arith))
-      where
-        there : (i : ℕ) → p % 8 < S .m i → Dec (i < S .n) → i < S .n
-        there i k (yes a) = a
-        there i k (no a) = absurd (omega (arith, few .none i (omega arith)))
-
-phase-decides : (S : Tasks) (i j : ℕ) → Decides (phaseTest S i j) ((j < S .m i → PhaseIn S i j) × (¬ (j < S .m i) → NoPhase S i j))
-phase-decides S i j =
-    by-test (ltb-decides j (S .m i))
-    (restated
-    (λ t. record { work-least = t .0 .0; work-most = t .0 .1; cost-most = t .1 })
-    (λ t. ((t .work-least, t .work-most), t .cost-most))
-    (both (within-decides 1 workMost (S .c i j)) (leb-decides (S .q i j) costMost)))
-    (restated
-    (λ t. record { no-work = t .0; no-cost = t .1 })
-    (λ t. (t .no-work, t .no-cost))
-    (both (eqb-decides (S .c i j) 0) (eqb-decides (S .q i j) 0)))
-
--- ---- the table
-
 -- a table in range has few phases
 pub few-of : (S : Tasks) → InTable S → Few S
 few-of S t = record { tasks = t .tasks; phases = λ i. go i (decLt i (S .n)); none = λ i l. t .no-task i l .no-phases }
@@ -116,6 +44,8 @@ few-of S t = record { tasks = t .tasks; phases = λ i. go i (decLt i (S .n)); no
     go : (i : ℕ) → Dec (i < S .n) → S .m i ≤ phasesMost
     go i (yes l) = t .task i l .phases-most
     go i (no l) = omega (arith, t .no-task i (omega arith) .no-phases)
+
+-- ---- the test
 
 module _ (a : Arrays) (sized : Sized a) where
   abbrev S : Tasks
@@ -143,27 +73,63 @@ module _ (a : Arrays) (sized : Sized a) where
       go i (yes l) = h .1 i (omega (arith, h .0)) .0 l .phases-most
       go i (no l) = omega (arith, no-task h i (omega arith) .no-phases)
 
-  past : (i j : ℕ) → 32 ≤ i → NoPhase S i j
-  past i j h = record { no-work = phase-past (a .work) i j (sized .work) h; no-cost = phase-past (a .cost) i j (sized .cost) h }
-
-  over : (i j : ℕ) → 8 ≤ j → NoPhase S i j
-  over i j h = record { no-work = phase-none (a .work) i j h; no-cost = phase-none (a .cost) i j h }
-
   -- THE TEST DECIDES THE RANGE
   pub table-decides : Decides (tableTest S) (InTable S)
   unfolding tableTest
   table-decides =
       restated
-      (λ h. record {
-        tasks = h .0 .0;
-        task = λ i l. h .0 .1 i (omega (arith, h .0 .0)) .0 l;
-        no-task = no-task (h .0);
-        phase = h .1 .0;
-        no-phase = h .1 .1;
+      (λ h. let tasks = h .0 .0 in record {
+        tasks = tasks .0;
+        task = λ i l. tasks .1 i (omega (arith, tasks .0)) .0 l;
+        no-task = no-task tasks;
+        phase = λ i j l k. record { work-least = h .0 .1 .0 i j l k .0; work-most = h .0 .1 .0 i j l k .1; cost-most = h .1 .0 i j l k .1 };
+        no-phase = λ i j l. record { no-work = h .0 .1 .1 i j l; no-cost = h .1 .1 i j l };
       })
-      (λ t. ((t .tasks, λ i l. (λ k. t .task i k, λ k. t .no-task i (omega arith))), (t .phase, t .no-phase)))
-      (under _ (both (leb-decides (S .n) tasksMost) (every 32 (taskTest S) (λ i. (i < S .n → TaskIn S i) × (¬ (i < S .n) → NoTask S i)) (task-decides S)))
-      (λ h. places-decide S (few h) (phaseTest S) (PhaseIn S) (NoPhase S) (phase-decides S) past over))
+      (λ t. (
+        (
+          (t .tasks, λ i l. (λ k. t .task i k, λ k. t .no-task i (omega arith))),
+          (λ i j l k. (t .phase i j l k .work-least, t .phase i j l k .work-most), λ i j l. t .no-phase i j l .no-work),
+        ),
+        (λ i j l k. (omega arith, t .phase i j l k .cost-most), λ i j l. t .no-phase i j l .no-cost),
+      ))
+      (under _
+      (under _
+      (both (leb-decides (S .n) tasksMost) (every 32 (taskTest S) (λ i. (i < S .n → TaskIn S i) × (¬ (i < S .n) → NoTask S i)) (task-decides S)))
+      (λ h. number-decides S (few h) 1 workMost (a .work) (sized .work)))
+      (λ h. number-decides S (few (h .0)) 0 costMost (a .cost) (sized .cost)))
+
+-- ---- arrays made of a table, and back
+
+pub sized-from : (S : Tasks) → Sized (arraysFrom S)
+sized-from S = record {
+  spacing = length-list 32 (S .T);
+  deadline = length-list 32 (S .D);
+  phases = length-list 32 (S .m);
+  work = length-list 256 (λ p. S .c (p / 8) (p % 8));
+  cost = length-list 256 (λ p. S .q (p / 8) (p % 8));
+}
+
+pub from-arrays : (a : Arrays) → Sized a → arraysFrom (asTasks a) ≡ a
+from-arrays a sized = λ k.
+    record {
+      tasks = a .tasks;
+      spacing = list-of 32 (a .spacing) 0 (sized .spacing) k;
+      deadline = list-of 32 (a .deadline) 0 (sized .deadline) k;
+      phases = list-of 32 (a .phases) 0 (sized .phases) k;
+      work = phases-of (a .work) (sized .work) k;
+      cost = phases-of (a .cost) (sized .cost) k;
+    }
+
+pub as-from : (S : Tasks) → InTable S → asTasks (arraysFrom S) ≡ S
+as-from S t = λ k.
+    record {
+      n = S .n;
+      T = λ i. at-task S (few-of S t) (S .T) (λ i l. t .no-task i l .no-spacing) i k;
+      D = λ i. at-task S (few-of S t) (S .D) (λ i l. t .no-task i l .no-deadline) i k;
+      m = λ i. at-task S (few-of S t) (S .m) (λ i l. t .no-task i l .no-phases) i k;
+      c = λ i j. at-used S (few-of S t) (S .c) (λ i j l. t .no-phase i j l .no-work) i j k;
+      q = λ i j. at-used S (few-of S t) (S .q) (λ i j l. t .no-phase i j l .no-cost) i j k;
+    }
 
 -- two tables in range without a task are one
 pub none-alike : (S S′ : Tasks) → InTable S → InTable S′ → S .n ≡ 0 → S′ .n ≡ 0 → S ≡ S′
@@ -188,3 +154,134 @@ none-alike S S′ t t′ e e′ = λ k.
 
     unused′ : (i j : ℕ) → S′ .m i ≤ j
     unused′ i j = omega (arith, t′ .no-task i (none′ i) .no-phases)
+
+-- ---- a table that is filled
+
+-- no task yet
+module _ (n : ℕ) where
+  abbrev none-yet : Tasks
+  none-yet = asTasks (withCount n emptyArrays)
+
+  pub sized-empty : Sized (withCount n emptyArrays)
+  unfolding emptyArrays
+  sized-empty = record { spacing = refl; deadline = refl; phases = refl; work = refl; cost = refl }
+
+  pub no-task-yet : (i : ℕ) → NoTask none-yet i
+  unfolding emptyArrays
+  no-task-yet i = record { no-spacing = zeros 32 i; no-deadline = zeros 32 i; no-phases = zeros 32 i }
+
+  pub no-phase-yet : (i j : ℕ) → NoPhase none-yet i j
+  unfolding emptyArrays
+  no-phase-yet i j = record { no-work = zeros-phase i j; no-cost = zeros-phase i j }
+
+-- a task put
+module _ (a : Arrays) (i spacing deadline phases : ℕ) where
+  abbrev put-task : Arrays
+  put-task = withTask i spacing deadline phases a
+
+  pub sized-task : Sized a → Sized put-task
+  sized-task s = record {
+    spacing = length-set (a .spacing) i spacing ∙ s .spacing;
+    deadline = length-set (a .deadline) i deadline ∙ s .deadline;
+    phases = length-set (a .phases) i phases ∙ s .phases;
+    work = s .work;
+    cost = s .cost;
+  }
+
+  pub task-put : Sized a → i < 32 → (1 ≤ spacing) × (spacing ≤ spacingMost) → (1 ≤ deadline) × (deadline ≤ spacing) → (1 ≤ phases) × (phases ≤ phasesMost)
+      → TaskIn (asTasks put-task) i
+  task-put s l T D m =
+      let eT = task-here (a .spacing) spacing i i refl (omega (arith, s .spacing)) in
+      let eD = task-here (a .deadline) deadline i i refl (omega (arith, s .deadline)) in
+      let em = task-here (a .phases) phases i i refl (omega (arith, s .phases)) in
+      record {
+        spacing-least = omega (arith, eT);
+        spacing-most = omega (arith, eT);
+        deadline-least = omega (arith, eD);
+        deadline-most = omega (arith, eT, eD);
+        phases-least = omega (arith, em);
+        phases-most = omega (arith, em);
+      }
+
+  -- every other task is as it was
+  module _ (b : ℕ) (other : b ≡ i → ⊥) where
+    abbrev eT : asTasks put-task .T b ≡ asTasks a .T b
+    eT = task-else (a .spacing) spacing b i other
+
+    abbrev eD : asTasks put-task .D b ≡ asTasks a .D b
+    eD = task-else (a .deadline) deadline b i other
+
+    pub phases-else : asTasks put-task .m b ≡ asTasks a .m b
+    phases-else = task-else (a .phases) phases b i other
+
+    pub task-kept : TaskIn (asTasks a) b → TaskIn (asTasks put-task) b
+    task-kept h = record {
+      spacing-least = omega (arith, eT, h .spacing-least);
+      spacing-most = omega (arith, eT, h .spacing-most);
+      deadline-least = omega (arith, eD, h .deadline-least);
+      deadline-most = omega (arith, eT, eD, h .deadline-most);
+      phases-least = omega (arith, phases-else, h .phases-least);
+      phases-most = omega (arith, phases-else, h .phases-most);
+    }
+
+    pub no-task-kept : NoTask (asTasks a) b → NoTask (asTasks put-task) b
+    no-task-kept h = record { no-spacing = eT ∙ h .no-spacing; no-deadline = eD ∙ h .no-deadline; no-phases = phases-else ∙ h .no-phases }
+
+  -- and every phase
+  pub phases-kept : (b j : ℕ) → PhaseIn (asTasks a) b j → PhaseIn (asTasks put-task) b j
+  phases-kept b j h = record { work-least = h .work-least; work-most = h .work-most; cost-most = h .cost-most }
+
+  pub no-phases-kept : (b j : ℕ) → NoPhase (asTasks a) b j → NoPhase (asTasks put-task) b j
+  no-phases-kept b j h = record { no-work = h .no-work; no-cost = h .no-cost }
+
+-- a phase put
+module _ (a : Arrays) (k : ℕ) (numbers : List ℕ) where
+  abbrev put-phase : Arrays
+  put-phase = withPhase k numbers a
+
+  pub sized-phase : Sized a → Sized put-phase
+  sized-phase s = record {
+    spacing = s .spacing;
+    deadline = s .deadline;
+    phases = s .phases;
+    work = length-set (a .work) k (getD numbers 0 0) ∙ s .work;
+    cost = length-set (a .cost) k (getD numbers 1 0) ∙ s .cost;
+  }
+
+  -- every other phase is as it was
+  module _ (b j : ℕ) (other : j < 8 → 8 * b + j ≡ k → ⊥) where
+    abbrev ec : asTasks put-phase .c b j ≡ asTasks a .c b j
+    ec = phase-else (a .work) (getD numbers 0 0) b j k other
+
+    abbrev eq : asTasks put-phase .q b j ≡ asTasks a .q b j
+    eq = phase-else (a .cost) (getD numbers 1 0) b j k other
+
+    pub phase-kept : PhaseIn (asTasks a) b j → PhaseIn (asTasks put-phase) b j
+    phase-kept h = record { work-least = omega (arith, ec, h .work-least); work-most = omega (arith, ec, h .work-most); cost-most = omega (arith, eq, h .cost-most) }
+
+    pub no-phase-kept : NoPhase (asTasks a) b j → NoPhase (asTasks put-phase) b j
+    no-phase-kept h = record { no-work = ec ∙ h .no-work; no-cost = eq ∙ h .no-cost }
+
+  -- and every task
+  pub tasks-kept : (b : ℕ) → TaskIn (asTasks a) b → TaskIn (asTasks put-phase) b
+  tasks-kept b h = record {
+    spacing-least = h .spacing-least;
+    spacing-most = h .spacing-most;
+    deadline-least = h .deadline-least;
+    deadline-most = h .deadline-most;
+    phases-least = h .phases-least;
+    phases-most = h .phases-most;
+  }
+
+  pub no-tasks-kept : (b : ℕ) → NoTask (asTasks a) b → NoTask (asTasks put-phase) b
+  no-tasks-kept b h = record { no-spacing = h .no-spacing; no-deadline = h .no-deadline; no-phases = h .no-phases }
+
+-- numbers of a phase, each in its range
+pub phase-put : (a : Arrays) (k : ℕ) (numbers : List ℕ) → Sized a → AllIn phaseNumbers numbers → (b j : ℕ) → j < 8 → 8 * b + j ≡ k → k < 256
+    → PhaseIn (asTasks (withPhase k numbers a)) b j
+phase-put a k numbers s h b j few e l =
+    let ec = phase-here (a .work) (getD numbers 0 0) b j k few e (omega (arith, s .work)) in
+    let eq = phase-here (a .cost) (getD numbers 1 0) b j k few e (omega (arith, s .cost)) in
+    let c = number-in phaseNumbers numbers h 0 (omega arith) in
+    let q = number-in phaseNumbers numbers h 1 (omega arith) in
+    record { work-least = omega (arith, ec, c .0); work-most = omega (arith, ec, c .1); cost-most = omega (arith, eq, q .1) }

@@ -12,7 +12,7 @@ use Rattle.finite.specs.Finite.{Below, listTo}
 use Rattle.finite.specs.laws.Lists.{getD-list, length-list}
 use Rattle.finite.specs.laws.Tests.{le-or-lt}
 use Rattle.model.specs.Arrays.{phaseAt}
-use Rattle.model.specs.Limits.{horizonMost, workMost}
+use Rattle.model.specs.Ranges.{horizonMost, workMost}
 use Rattle.model.specs.Phase.{Choice, phasesOf}
 use Rattle.model.specs.Tasks.{Tasks}
 use Rattle.model.specs.Works.{longest}

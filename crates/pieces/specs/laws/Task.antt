@@ -10,9 +10,8 @@ use borrow.Author.Tests.{lt-ltb, ltb-true}
 use Rattle.finite.specs.If.{if_then_else_}
 use Rattle.finite.specs.laws.Extremes.{max-least}
 use Rattle.model.specs.Arrays.{Arrays, asTasks}
-use Rattle.model.specs.Limits.{costMost, horizonMost, phasesMost, workMost}
 use Rattle.model.specs.Phase.{Choice, brings, budget, ceilDiv, hasRoom, longestPiece, needed, phasesOf, pieceLength}
-use Rattle.model.specs.Ranges.{PhaseIn}
+use Rattle.model.specs.Ranges.{PhaseIn, costMost, horizonMost, phasesMost, workMost}
 use Rattle.model.specs.Tasks.{Tasks}
 use Rattle.model.specs.Works.{longest}
 use Rattle.model.specs.laws.Plain.{ceil-least, ceil-most, ceil-pos, pieces-of}

@@ -11,9 +11,8 @@ use Rattle.arrays.specs.Rules.{ticksOf}
 use Rattle.finite.specs.Finite.{Below, allTo}
 use Rattle.finite.specs.laws.Decided.{alike, both, by-test, every, restated, three, within-decides}
 use Rattle.finite.specs.laws.Tests.{Decides, and-both, by-cases, eqb-decides, leb-decides}
-use Rattle.model.specs.Limits.{tasksMost}
 use Rattle.model.specs.Phase.{Choice}
-use Rattle.model.specs.Ranges.{InTable, phaseTest, tableTest, taskTest}
+use Rattle.model.specs.Ranges.{InTable, phaseTest, tableTest, taskTest, tasksMost}
 use Rattle.model.specs.Tasks.{Tasks}
 use Rattle.model.specs.laws.Ranges.{few-of, table-decides}
 use Rattle.promise.specs.Rules.{State, stated}

@@ -10,7 +10,7 @@ use borrow.Author.Tests.{eq-eqb, ne-eqb}
 use Rattle.finite.specs.Finite.{sumTo}
 use Rattle.finite.specs.laws.Sums.{sum-cong}
 use Rattle.model.specs.Arrays.{Arrays}
-use Rattle.model.specs.Limits.{tasksMost}
+use Rattle.model.specs.Ranges.{tasksMost}
 use Rattle.pieces.specs.Bounds.{budgetMost}
 use Rattle.pieces.specs.laws.Sums.{sum-none, sum-more}
 use Rattle.walk.specs.Budgets.{BudgetsSettled, Settles, addedMost, budgetAt, cutAt, leastBudget, owed, settled}

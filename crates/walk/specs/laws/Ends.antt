@@ -7,7 +7,7 @@ use Prim.Native.Nat.{ℕ, _+_, _-_, _≤_, _<_, min}
 use native.Mathlib.Omega.{arith}
 use lib.ListN.{replicate}
 use Rattle.model.specs.Arrays.{Arrays}
-use Rattle.model.specs.Limits.{horizonMost}
+use Rattle.model.specs.Ranges.{horizonMost}
 use Rattle.walk.specs.Deadlines.{Earliest}
 use Rattle.walk.specs.End.{WalkEnds, accepted, refused, walkedOf}
 use Rattle.walk.specs.Stuck.{BeforeStop, WalksOn, StopsAt}

@@ -2,9 +2,8 @@
 -- Assumes nothing.
 use Prim.Native.Nat.{ℕ, _≤_, _<_}
 use Rattle.model.specs.Arrays.{Arrays, asTasks}
-use Rattle.model.specs.Limits.{tasksMost}
 use Rattle.model.specs.Phase.{phasesOf}
-use Rattle.model.specs.Ranges.{InTable, TaskIn}
+use Rattle.model.specs.Ranges.{InTable, TaskIn, tasksMost}
 use Rattle.model.specs.Tasks.{Sane, Tasks}
 use Rattle.model.specs.laws.Phases.{Laws}
 use Rattle.model.specs.laws.Plain.{laws-of}

@@ -7,7 +7,7 @@ use borrow.Author.Needs.{needs}
 use denote.Ref.{now}
 use lib.Dec.{ltb}
 use lib.ListN.{getD}
-use Rattle.model.specs.Limits.{phasesMost}
+use Rattle.model.specs.Ranges.{phasesMost}
 use Rattle.finite.specs.Finite.{anyTo}
 use Rattle.writer.proofs.long_task.Statement.{statement}
 use Rattle.writer.proofs.long_task.Tie as tie

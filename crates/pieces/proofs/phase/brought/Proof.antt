@@ -4,7 +4,7 @@ use Prim.Native.Nat.{_*_, _≤_}
 use borrow.Author.Needs.{needs}
 use native.Mathlib.Nat.{mul-le-mul}
 use native.Mathlib.Omega.{arith}
-use Rattle.model.specs.Limits.{costMost, workMost}
+use Rattle.model.specs.Ranges.{costMost, workMost}
 use Rattle.pieces.proofs.phase.brought.Statement.{statement}
 use Rattle.pieces.proofs.phase.brought.Tie as tie
 

@@ -5,7 +5,7 @@ use mathlib.Core.Path.{_≡_, sym}
 use Prim.Native.Nat.{_≤_, _-_}
 use lib.ListN.{getD}
 use denote.Ref.{now}
-use Rattle.model.specs.Limits.{horizonMost}
+use Rattle.model.specs.Ranges.{horizonMost}
 use Rattle.model.specs.TestPoints.{lcmTo}
 use Rattle.table.proofs.Multiples.{Spaced, lcmTo-none, horizon-positive, spacing-positive, horizon-above, horizon-more, horizon-done}
 use Rattle.table.proofs.horizon.horizon.Statement.{statement}

@@ -6,7 +6,7 @@ use Prim.Native.Nat.{_≤_, _*_, _/_, _-_}
 use lib.ListN.{getD}
 use denote.Ref.{now}
 use Rattle.finite.specs.Finite.{sumTo}
-use Rattle.model.specs.Limits.{horizonMost}
+use Rattle.model.specs.Ranges.{horizonMost}
 use Rattle.table.proofs.Multiples.{Summed, sum-none, sum-divides, sum-more, sum-small, sum-done}
 use Rattle.table.proofs.horizon.jobs_within.Statement.{statement}
 use Rattle.table.proofs.horizon.jobs_within.Tie as tie

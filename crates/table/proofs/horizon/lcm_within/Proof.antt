@@ -3,7 +3,7 @@
 use borrow.Author.Needs.{needs}
 use native.Mathlib.Nat.{lt-of-le-of-lt}
 use lib.Dec.{lit<}
-use Rattle.model.specs.Limits.{horizonMost}
+use Rattle.model.specs.Ranges.{horizonMost}
 use Rattle.table.proofs.Multiples.{Divided, divisor-positive, product-fits, within-under, within-above}
 use Rattle.table.proofs.horizon.lcm_within.Statement.{statement}
 use Rattle.table.proofs.horizon.lcm_within.Tie as tie
