@@ -7,6 +7,7 @@ use native.Mathlib.Nat.{le-antisymm, le-trans, mul-le-mul, mul-le-mul-right}
 use native.Mathlib.Omega.{arith}
 use lib.Dec.{ltb}
 use borrow.Author.Tests.{lt-ltb, ltb-true}
+use Rattle.finite.specs.Finite.{Below}
 use Rattle.finite.specs.If.{if_then_else_}
 use Rattle.finite.specs.laws.Extremes.{max-least}
 use Rattle.model.specs.Arrays.{Arrays, asTasks}
@@ -17,10 +18,14 @@ use Rattle.model.specs.Works.{longest}
 use Rattle.model.specs.laws.Plain.{ceil-least, ceil-most, ceil-pos, pieces-of}
 use Rattle.pieces.specs.Bounds.{budgetMost, phaseMost, pieceMost}
 use Rattle.pieces.specs.Held.{held, needs}
-use Rattle.pieces.specs.Task.{InPieces, PhaseFits, Roomy}
+use Rattle.pieces.specs.Task.{InPieces, PhaseFits, Roomy, WorkIn}
 use Rattle.pieces.specs.laws.Sums.{sum-most}
 
 -- ---- a phase
+
+-- the range of a table's phase is what the arithmetic asks
+pub work-in : {S : Tasks} {i j : ℕ} → PhaseIn S i j → WorkIn (S .c i j) (S .q i j)
+work-in p = record { work-least = p .work-least; work-most = p .work-most; cost-most = p .cost-most }
 
 -- no count that is needed is above the work
 pub need-most : (c q M : ℕ) → hasRoom q M ≡ true → needed c q M ≤ c
@@ -58,16 +63,16 @@ piece-by ea eb ex e = (e .0 ∙ rw (ea, eb, ex), omega (arith, e .1))
 
 module _ (S : Tasks) (i : ℕ) where
   -- where counts are at most the work, the budget is bounded
-  pub cost-most : (x : Choice) → S .m i ≤ phasesMost → ((j : ℕ) → j < S .m i → PhaseIn S i j) → ((j : ℕ) → j < S .m i → x i j ≤ S .c i j)
+  cost-within : (x : Choice) → S .m i ≤ phasesMost → Below (S .m i) (λ j. WorkIn (S .c i j) (S .q i j)) → Below (S .m i) (λ j. x i j ≤ S .c i j)
       → phasesOf S .budget x i ≤ budgetMost
-  cost-most x few ph le =
+  cost-within x few ph le =
       rw (pieces-of S .whole x i)
       (le-trans
       (sum-most (S .m i) phaseMost (brings S x i) (λ j l. let p = ph j l in brought-most (S .c i j) (S .q i j) (x i j) (p .work-most) (p .cost-most) (omega (arith, p .work-most, le j l))))
       (mul-le-mul-right phaseMost few))
 
   pub budget-most : (M : ℕ) → Roomy S M i → phasesOf S .budget (needs (phasesOf S) M) i ≤ budgetMost
-  budget-most M r = cost-most (needs (phasesOf S) M) (r .few) (r .phase) (λ j l. need-most (S .c i j) (S .q i j) M (r .room j l))
+  budget-most M r = cost-within (needs (phasesOf S) M) (r .few) (r .phase) (λ j l. need-most (S .c i j) (S .q i j) M (r .room j l))
 
   pub longest-most : (x : Choice) → InPieces S x i → longest S (phasesOf S) x i ≤ pieceMost
   unfolding longest
@@ -76,11 +81,11 @@ module _ (S : Tasks) (i : ℕ) where
       (λ j l. let p = r .phase j l in omega (arith, p .work-most, p .cost-most, piece-most (S .c i j) (S .q i j) (x i j) (r .some j l)))
 
 -- where nothing limits a piece, each phase in range has room
-pub room-far : (S : Tasks) (i j : ℕ) → PhaseIn S i j → phasesOf S .room i j horizonMost ≡ true
+pub room-far : (S : Tasks) (i j : ℕ) → WorkIn (S .c i j) (S .q i j) → phasesOf S .room i j horizonMost ≡ true
 room-far S i j p = lt-ltb (S .q i j) horizonMost (omega (arith, p .cost-most))
 
 -- and stays whole
-pub need-far : (S : Tasks) (i j : ℕ) → PhaseIn S i j → phasesOf S .need i j horizonMost ≡ 1
+pub need-far : (S : Tasks) (i j : ℕ) → WorkIn (S .c i j) (S .q i j) → phasesOf S .need i j horizonMost ≡ 1
 need-far S i j p =
     le-antisymm
     (ceil-least (S .c i j) (horizonMost - S .q i j) 1 (omega (arith, p .cost-most)) (omega (arith, p .work-most, p .cost-most)))
@@ -93,14 +98,11 @@ module _ (a : Arrays) where
   abbrev bare : Tasks
   bare = held (a .phases) (a .work) (a .cost)
 
-  phase-bare : {i j : ℕ} → PhaseIn (asTasks a) i j → PhaseIn bare i j
-  phase-bare p = record { work-least = p .work-least; work-most = p .work-most; cost-most = p .cost-most }
-
   pub roomy-bare : {M i : ℕ} → Roomy (asTasks a) M i → Roomy bare M i
-  roomy-bare r = record { task = r .task; few = r .few; low = r .low; phase = λ j l. phase-bare (r .phase j l); room = r .room }
+  roomy-bare r = record { task = r .task; few = r .few; low = r .low; phase = r .phase; room = r .room }
 
   pub in-pieces-bare : {x : Choice} {i : ℕ} → InPieces (asTasks a) x i → InPieces bare x i
-  in-pieces-bare r = record { task = r .task; few = r .few; phase = λ j l. phase-bare (r .phase j l); some = r .some }
+  in-pieces-bare r = record { task = r .task; few = r .few; phase = r .phase; some = r .some }
 
   pub cost-bare : (x : Choice) (i : ℕ) → phasesOf bare .budget x i ≡ phasesOf (asTasks a) .budget x i
   unfolding budget
