@@ -1,4 +1,5 @@
--- DEFINITIONS. The counts of a judged table in an array of 256, and its longest pieces in one of 32, place by place.
+-- WITHIN THE JUDGES (nobody need believe this: it is what their arrays hold). The counts of a judged table in an array of 256, and its longest pieces
+-- in one of 32, place by place.
 -- Assumes nothing.
 use Prim.Native.Nat.{ℕ, _/_, _%_}
 use lib.Dec.{ltb}
