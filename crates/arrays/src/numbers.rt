@@ -1,37 +1,42 @@
-// Numbers, and reads and writes at any index of a lent array.
+// Numbers, and reads at any place of a lent array.
 ghost use mathlib.Core.Path.{_≡_};
 ghost use mathlib.Core.Bool.{cond};
 ghost use Prim.Native.Nat.{_+_, _-_, _<_, min};
 ghost use lib.ListN.{getD, length};
 
-pub fn up_to(s: u32, t: u32) -> u32
-    ensures { λ r. ⌜ r ≡ min t (s + 1) ⌝ }
+// One more, up to a most.
+pub fn up_to(number: u32, most: u32) -> u32
+    ensures { λ r. ⌜ r ≡ min most (number + 1) ⌝ }
 {
-    if s < t { s + 1 } else { t }
+    if number < most { number + 1 } else { most }
 }
 
-pub fn down(l: u32) -> u32
-    ensures { λ r. ⌜ r ≡ l - 1 ⌝ }
+// One less, down to 0.
+pub fn down(number: u32) -> u32
+    ensures { λ r. ⌜ r ≡ number - 1 ⌝ }
 {
-    if 0 < l { l - 1 } else { 0 }
+    if 0 < number { number - 1 } else { 0 }
 }
 
-pub fn either(c: bool, x: u32, y: u32) -> u32
-    ensures { λ r. ⌜ r ≡ cond c x y ⌝ }
+// The first where the test holds, and otherwise the second.
+pub fn either(holds: bool, first: u32, second: u32) -> u32
+    ensures { λ r. ⌜ r ≡ cond holds first second ⌝ }
 {
-    if c { x } else { y }
+    if holds { first } else { second }
 }
 
-pub fn choose(b: bool, x: bool, y: bool) -> bool
-    ensures { λ r. ⌜ r ≡ cond b x y ⌝ }
+// The same of two tests.
+pub fn choose(holds: bool, first: bool, second: bool) -> bool
+    ensures { λ r. ⌜ r ≡ cond holds first second ⌝ }
 {
-    if b { x } else { y }
+    if holds { first } else { second }
 }
 
-pub fn index(x: u32) -> usize
-    ensures { λ r. ⌜ (r ≡ x) × (r < 4294967296) ⌝ }
+// A number as an index.
+pub fn index(number: u32) -> usize
+    ensures { λ r. ⌜ (r ≡ number) × (r < 4294967296) ⌝ }
 {
-    x as usize
+    number as usize
 }
 
 // The index of what is numbered from 1.
@@ -41,16 +46,18 @@ pub fn from_one(number: u32) -> usize
     index(down(number))
 }
 
-pub fn at32(a: &[u32; 32], i: usize) -> u32
-    requires { ⌜ length (now a) ≡ 32 ⌝ }
-    ensures { λ r. ⌜ r ≡ getD (now (a .entry)) i 0 ⌝ }
+// What stands at a place of an array of 32, and 0 beyond its last.
+pub fn at32(array: &[u32; 32], place: usize) -> u32
+    requires { ⌜ length (now array) ≡ 32 ⌝ }
+    ensures { λ r. ⌜ r ≡ getD (now (array .entry)) place 0 ⌝ }
 {
-    if i < 32 { a[i] } else { 0 }
+    if place < 32 { array[place] } else { 0 }
 }
 
-pub fn at256(a: &[u32; 256], i: usize) -> u32
-    requires { ⌜ length (now a) ≡ 256 ⌝ }
-    ensures { λ r. ⌜ r ≡ getD (now (a .entry)) i 0 ⌝ }
+// What stands at a place of an array of 256, and 0 beyond its last.
+pub fn at256(array: &[u32; 256], place: usize) -> u32
+    requires { ⌜ length (now array) ≡ 256 ⌝ }
+    ensures { λ r. ⌜ r ≡ getD (now (array .entry)) place 0 ⌝ }
 {
-    if i < 256 { a[i] } else { 0 }
+    if place < 256 { array[place] } else { 0 }
 }

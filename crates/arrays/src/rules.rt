@@ -8,7 +8,7 @@ ghost use mathlib.Core.Path.{_≡_};
 ghost use Prim.Native.Nat.{_+_, _*_, _^_, _<_};
 ghost use lib.ListN.{length};
 ghost use Rattle.arrays.specs.Masks.{digit, maskOf};
-ghost use Rattle.arrays.specs.Rules.{letsIn, urgentOf, placeOf, ticksOf, dueOf};
+ghost use Rattle.arrays.specs.Rules.{entersOf, urgentOf, placeOf, ticksOf, dueOf};
 
 // The piece of a task (from 1; 0 for none) that runs or is next due: its phase and number, and how many of each there are.
 pub struct Due {
@@ -21,12 +21,16 @@ pub struct Due {
 
 // ---- rule 1: whom to let in
 
-// The mask with bit i besides, where it enters.
-fn with_bit(entered: u32, i: usize, enters: bool) -> u32
-    requires { ⌜ (i < 32) × (entered < 2 ^ i) ⌝ }
-    ensures { λ r. ⌜ r ≡ digit enters * 2 ^ i + entered ⌝ }
+// The mask with a task's bit besides, where it enters.
+fn with_bit(entered: u32, task: usize, enters: bool) -> u32
+    requires { ⌜ (task < 32) × (entered < 2 ^ task) ⌝ }
+    ensures { λ r. ⌜ r ≡ digit enters * 2 ^ task + entered ⌝ }
 {
-    if enters { (1 << i) + entered } else { entered }
+    if enters {
+        (1 << task) + entered
+    } else {
+        entered
+    }
 }
 
 // The mask of those let in, in one pass over the tasks without a branch, so that several are tested at a time.
@@ -37,7 +41,7 @@ pub fn let_in<'a>(
     unfinished: &'a [u32; 32],
     mask: u32,
 ) -> u32
-    ensures { λ r. ⌜ r ≡ maskOf 32 (letsIn tasks (now (spacing .entry)) (now (since .entry)) (now (unfinished .entry)) mask) ⌝ }
+    ensures { λ r. ⌜ r ≡ maskOf 32 (entersOf tasks (now (spacing .entry)) (now (since .entry)) (now (unfinished .entry)) mask) ⌝ }
 {
     let count = tasks as usize;
     let mut entered = 0u32;
@@ -71,9 +75,9 @@ fn due_place(phase: &[u32; 32], task: u32) -> usize
     requires { ⌜ length (now phase) ≡ 32 ⌝ }
     ensures { λ r. ⌜ r ≡ placeOf (now (phase .entry)) task ⌝ }
 {
-    let i = from_one(task);
-    let j = from_one(at32(phase, i));
-    8 * i + j
+    let task_place = from_one(task);
+    let phase_place = from_one(at32(phase, task_place));
+    8 * task_place + phase_place
 }
 
 // The ticks of a task's (from 1) running or next due piece.
@@ -89,11 +93,11 @@ pub fn due_ticks<'a>(
     ensures { λ r. ⌜ r ≡ ticksOf (now (phase .entry)) (now (piece .entry)) (now (work .entry)) (now (cost .entry)) (now (counts .entry)) task ⌝ }
 {
     let place = due_place(phase, task);
-    let c = at256(work, place);
-    let q = at256(cost, place);
-    let x = at256(counts, place);
+    let due_work = at256(work, place);
+    let due_cost = at256(cost, place);
+    let due_count = at256(counts, place);
     let due = down(at32(piece, from_one(task)));
-    pieces::phase::length(c, q, x, due)
+    pieces::phase::length(due_work, due_cost, due_count, due)
 }
 
 // ---- rule 3: the piece that runs
@@ -109,13 +113,13 @@ pub fn due_piece<'a>(
     requires { ⌜ (length (now phases) ≡ 32) × (length (now counts) ≡ 256) × (length (now phase) ≡ 32) × (length (now piece) ≡ 32) ⌝ }
     ensures { λ r. ⌜ r ≡ dueOf (now (phases .entry)) (now (counts .entry)) (now (phase .entry)) (now (piece .entry)) task ⌝ }
 {
-    let i = from_one(task);
+    let task_place = from_one(task);
     let place = due_place(phase, task);
     Due {
         task,
-        phase: at32(phase, i),
-        piece: at32(piece, i),
+        phase: at32(phase, task_place),
+        piece: at32(piece, task_place),
         pieces: at256(counts, place),
-        phases: at32(phases, i),
+        phases: at32(phases, task_place),
     }
 }

@@ -9,19 +9,21 @@ use native.Mathlib.Omega.{arith}
 use lib.ListN.{getD}
 use Rattle.arrays.specs.Rules.{goesBefore, urgentOf}
 
-pub urgent-none : (u : List ℕ) (a : List ℕ) → 0 ≡ urgentOf u a 0
-unfolding urgentOf
-urgent-none u a = refl
+module _ (unfinished left : List ℕ) where
+  pub urgent-none : 0 ≡ urgentOf unfinished left 0
+  unfolding urgentOf
+  urgent-none = refl
 
--- one task more is looked at, the best so far having time left `least`
-pub urgent-more : (u : List ℕ) (a : List ℕ) (i best least v : ℕ) → best ≡ urgentOf u a i → least ≡ getD a (best - 1) 0 → v ≡ cond (goesBefore u a i best least) (i + 1) best → v ≡ urgentOf u a (i + 1)
-unfolding urgentOf
-urgent-more u a i best least v e f g = g ∙ rw (add-one, f, e)
+  -- one task more is looked at, the best so far having time left `least`
+  module _ (i best least next : ℕ) (time : least ≡ getD left (best - 1) 0) (better : next ≡ cond (goesBefore unfinished left i best least) (i + 1) best) where
+    pub urgent-more : best ≡ urgentOf unfinished left i → next ≡ urgentOf unfinished left (i + 1)
+    unfolding urgentOf
+    urgent-more e = better ∙ rw (add-one, time, e)
 
--- the time left of the best
-time-left : (a : List ℕ) (b : Bool) (i t l v w : ℕ) → l ≡ getD a (t - 1) 0 → v ≡ cond b (i + 1) t → w ≡ cond b (getD a i 0) l → w ≡ getD a (v - 1) 0
-time-left a true i t l v w e f g = g ∙ ap (λ (k : ℕ). getD a k 0) (omega arith)
-time-left a false i t l v w e f g = g ∙ e ∙ ap (λ (k : ℕ). getD a (k - 1) 0) (sym f)
-
-pub urgent-time : (u : List ℕ) (a : List ℕ) (i best least v w : ℕ) → least ≡ getD a (best - 1) 0 → v ≡ cond (goesBefore u a i best least) (i + 1) best → w ≡ cond (goesBefore u a i best least) (getD a i 0) least → w ≡ getD a (v - 1) 0
-urgent-time u a i best least v w = time-left a (goesBefore u a i best least) i best least v w
+    -- the time left of the best
+    pub urgent-time : (more : ℕ) → more ≡ cond (goesBefore unfinished left i best least) (getD left i 0) least → more ≡ getD left (next - 1) 0
+    urgent-time more is = go (goesBefore unfinished left i best least) better is
+      where
+        go : (b : Bool) → next ≡ cond b (i + 1) best → more ≡ cond b (getD left i 0) least → more ≡ getD left (next - 1) 0
+        go true f g = g ∙ ap (λ (k : ℕ). getD left k 0) (omega arith)
+        go false f g = g ∙ time ∙ ap (λ (k : ℕ). getD left (k - 1) 0) (sym f)

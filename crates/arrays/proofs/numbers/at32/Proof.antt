@@ -16,7 +16,7 @@ returns : tie.Need-returns
 returns c = search needs
 
 returns-2 : tie.Need-returns-2
-returns-2 c = sym (List·getD-eq-default (c .before .args .a .now) 0 (omega arith))
+returns-2 c = sym (List·getD-eq-default (c .before .args .array .now) 0 (omega arith))
 
 pub at32-spec : {M : Type 1} → statement M
 at32-spec = tie.close (tie.spec mul-result element-copy-out-result returns returns-2)

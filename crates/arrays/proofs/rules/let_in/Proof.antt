@@ -3,14 +3,14 @@ use mathlib.Core.Path.{_≡_}
 use Prim.Native.Nat.{_-_, _≤_}
 use native.Mathlib.Omega.{arith}
 use Rattle.arrays.specs.Masks.{maskOf}
-use Rattle.arrays.specs.Rules.{letsIn}
+use Rattle.arrays.specs.Rules.{entersOf}
 use Rattle.arrays.specs.laws.Masks.{maskOf-lt, maskOf-more, maskOf-none}
 use borrow.Author.Needs.{needs}
 use Rattle.arrays.proofs.rules.let_in.Statement.{statement}
 use Rattle.arrays.proofs.rules.let_in.Tie as tie
 
 abbrev Inv-loop : tie.InvT-loop
-Inv-loop tasks spacing since unfinished mask count entered₀ i₀ entered i = (i ≤ 32) × (entered ≡ maskOf i (letsIn tasks spacing since unfinished mask))
+Inv-loop tasks spacing since unfinished mask count entered₀ i₀ entered i = (i ≤ 32) × (entered ≡ maskOf i (entersOf tasks spacing since unfinished mask))
 
 abbrev μ-loop : tie.MeasureT-loop
 μ-loop tasks spacing since unfinished mask count entered₀ i₀ entered i = 32 - i

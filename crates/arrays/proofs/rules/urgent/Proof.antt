@@ -57,8 +57,8 @@ loop-again c =
     let l = turn .loop in
     let a = turn .before .before .args in (
       search needs,
-      urgent-more _ _ _ _ _ _ (l .inv .1) (l .inv .2) (c .before .either .ensures),
-      urgent-time (a .unfinished .now) (a .left .now) (l .i) (l .best) (l .least) _ _ (l .inv .2) (c .before .either .ensures) (c .either2 .ensures),
+      urgent-more (a .unfinished .now) (a .left .now) (l .i) (l .best) (l .least) _ (l .inv .2) (c .before .either .ensures) (l .inv .1),
+      urgent-time (a .unfinished .now) (a .left .now) (l .i) (l .best) (l .least) _ (l .inv .2) (c .before .either .ensures) _ (c .either2 .ensures),
     )
 
 returns : tie.Need-returns Inv-loop μ-loop
