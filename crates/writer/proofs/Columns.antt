@@ -26,8 +26,8 @@ unfilled n ys e = record {
     go a (inl h) = List·getD-eq-default (replicate n 0) 0 (omega (arith, length-replicate {A = ℕ} n 0))
     go a (inr h) = getD-replicate n a 0 0 h
 
-pub put : {k : ℕ} {xs ys : List ℕ} → Filled k xs ys → k < length ys → Filled (k + 1) (set xs k (getD ys k 0)) ys
-put {k} {xs} {ys} f h = record {
+pub fill : {k : ℕ} {xs ys : List ℕ} → Filled k xs ys → k < length ys → Filled (k + 1) (set xs k (getD ys k 0)) ys
+fill {k} {xs} {ys} f h = record {
   long = length-set xs k (getD ys k 0) ∙ f .long;
   front = λ a l. at-or-before a l (ℕ-discrete a k);
   behind = λ a l. getD-set-other xs k a (getD ys k 0) 0 (λ e. omega arith) ∙ f .behind a (omega arith);
@@ -37,7 +37,7 @@ put {k} {xs} {ys} f h = record {
     at-or-before a l (yes e) = rw e (getD-set-same xs k (getD ys k 0) 0 (omega (arith, f .long)))
     at-or-before a l (no e) = getD-set-other xs k a (getD ys k 0) 0 e ∙ f .front a (omega arith)
 
--- where ys is 0 there is nothing to put
+-- where ys is 0 there is nothing to fill
 pub skip : {k : ℕ} {xs ys : List ℕ} (m : ℕ) → Filled k xs ys → k ≤ m → ((a : ℕ) → k ≤ a → a < m → getD ys a 0 ≡ 0) → Filled m xs ys
 skip {k} {xs} {ys} m f h z = record {
   long = f .long;

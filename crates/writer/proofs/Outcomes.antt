@@ -18,7 +18,7 @@ use Rattle.groups.proofs.Passes.{in-front}
 use Rattle.table.specs.declared.Table.{Table}
 use Rattle.writer.specs.declared.TableWritten.{TableWritten}
 use Rattle.writer.specs.declared.TableWritten.the-variants.{Wrote, NoRoom, OutOfRange}
-use Rattle.writer.specs.Written.{phaseNumbers, taskNumbers, tableNumbers, tableBytes, overfull, Writes}
+use Rattle.writer.specs.Written.{phaseItems, taskItems, tableItems, tableBytes, overfull, Writes}
 
 -- the test of the phases, for a table
 abbrev pub longTask : Table → Bool
@@ -35,15 +35,15 @@ few t e i h = go (le-or-lt (getD (t .phases) i 0) phasesMost)
         (failed (any-decides (t .tasks) (λ j. ltb phasesMost (getD (t .phases) j 0)) (λ j. phasesMost < getD (t .phases) j 0) (λ j _. ltb-decides phasesMost (getD (t .phases) j 0))) e (i, h, l))
 
 -- a table that its arrays hold
-pub record Held (t : Table) : Type 0 where
+pub record InArrays (t : Table) : Type 0 where
   pub tasks-most : t .tasks ≤ tasksMost
   pub phases-most : (i : ℕ) → i < t .tasks → getD (t .phases) i 0 ≤ phasesMost
 
-pub held : (t : Table) → overfull t ≡ false → Held t
+pub in-arrays : (t : Table) → overfull t ≡ false → InArrays t
 unfolding overfull
-held t e = go (ltb tasksMost (t .tasks)) refl (longTask t) refl e
+in-arrays t e = go (ltb tasksMost (t .tasks)) refl (longTask t) refl e
   where
-    go : (x : Bool) → ltb tasksMost (t .tasks) ≡ x → (y : Bool) → longTask t ≡ y → (x || y) ≡ false → Held t
+    go : (x : Bool) → ltb tasksMost (t .tasks) ≡ x → (y : Bool) → longTask t ≡ y → (x || y) ≡ false → InArrays t
     go true a y b e = absurd (true≢false e)
     go false a true b e = absurd (true≢false e)
     go false a false b e = record { tasks-most = ltb-false tasksMost (t .tasks) a; phases-most = few t b }
@@ -54,30 +54,30 @@ unfolding overfull
 arrays-hold t h e f = rw (le-ltb tasksMost (t .tasks) h, sym e ∙ f)
 
 pub few-tasks : (t : Table) → overfull t ≡ false → t .tasks ≤ tasksMost
-few-tasks t e = held t e .tasks-most
+few-tasks t e = in-arrays t e .tasks-most
 
 -- its phases have places in the arrays
 pub phases-inside : (t : Table) (i : ℕ) → overfull t ≡ false → i < t .tasks → 8 * i + getD (t .phases) i 0 ≤ 256
-phases-inside t i e h = let k = held t e in omega (arith, k .tasks-most, k .phases-most i h)
+phases-inside t i e h = let k = in-arrays t e in omega (arith, k .tasks-most, k .phases-most i h)
 
 -- so few numbers can be measured: two a phase, and so at most 19 a task
-task-few : (t : Table) (i : ℕ) → getD (t .phases) i 0 ≤ phasesMost → length (taskNumbers t i) ≤ 19
-unfolding taskNumbers
+task-few : (t : Table) (i : ℕ) → getD (t .phases) i 0 ≤ phasesMost → length (taskItems t i) ≤ 19
+unfolding taskItems
 task-few t i h =
     let m = getD (t .phases) i 0 in
-    let own = join-count 2 m (λ j. phaseNumbers (t .work) (t .cost) (8 * i + j)) (λ j l. omega arith) in
+    let own = join-count 2 m (λ j. phaseItems (t .work) (t .cost) (8 * i + j)) (λ j l. omega arith) in
     omega arith
 
 module _ (t : Table) (e : overfull t ≡ false) where
-  pub can-be-measured : {out : List ℕ} → Fits false out 0 (tableNumbers t)
+  pub can-be-measured : {out : List ℕ} → Fits false out 0 (tableItems t)
   can-be-measured = record {
     most =
-        let h = held t e in
-        omega (arith, h .tasks-most, eight-each (tableNumbers t), join-count 19 (t .tasks) (taskNumbers t) (λ i l. task-few t i (h .phases-most i l)));
+        let h = in-arrays t e in
+        omega (arith, h .tasks-most, eight-each (tableItems t), join-count 19 (t .tasks) (taskItems t) (λ i l. task-few t i (h .phases-most i l)));
   }
 
-  module _ {before between : List ℕ} {n : ℕ} (v : Passed false before between 0 n (tableNumbers t)) where
-    pub measured-fits : n ≤ length between → Fits true between 0 (tableNumbers t)
+  module _ {before between : List ℕ} {n : ℕ} (v : Passed false before between 0 n (tableItems t)) where
+    pub measured-fits : n ≤ length between → Fits true between 0 (tableItems t)
     measured-fits h = record { most = omega (arith, v .next-is) }
 
     pub no-room : length between < n → Writes t before between NoRoom
@@ -86,7 +86,7 @@ module _ (t : Table) (e : overfull t ≡ false) where
         short : ltb (length before) (length (tableBytes t)) ≡ true
         short = lt-ltb (length before) (length (tableBytes t)) (omega (arith, v .next-is, ap length (v .after-is)))
 
-    pub placed : {after : List ℕ} {next : ℕ} → n ≤ length between → Passed true between after 0 next (tableNumbers t) → Writes t before after (Wrote next)
+    pub placed : {after : List ℕ} {next : ℕ} → n ≤ length between → Passed true between after 0 next (tableItems t) → Writes t before after (Wrote next)
     placed {after} {next} h w =
         let f = in-front (omega (arith, v .next-is)) w in
         record {

@@ -19,9 +19,9 @@ use Rattle.table.specs.declared.Table.{Table}
 use Rattle.table.specs.Parse.{Result, got, numberIn, each, phase, task, numbers, table, nothingBehind, empty, withCount, withTask, withPhase}
 use Rattle.table.specs.TaskModel.{tasksOf, jobsWithin}
 use Rattle.table.specs.Valid.{Valid}
-use Rattle.writer.specs.Written.{phaseNumbers, taskNumbers, tableBytes}
+use Rattle.writer.specs.Written.{phaseItems, taskItems, tableBytes}
 use Rattle.writer.proofs.Sizes.{PhaseAt, phase-of}
-use Rattle.writer.proofs.Columns.{Filled, unfilled, put, skip, whole}
+use Rattle.writer.proofs.Columns.{Filled, unfilled, fill, skip, whole}
 
 -- the bytes of the numbers ns stand at `at` of s, and r behind them
 abbrev pub Stands : (s : List ℕ) (at : ℕ) (ns r : List ℕ) → Type 0
@@ -77,11 +77,11 @@ back-as {x} {P} {s} {at} {ms} {ns} {r} e = subst (λ (l : List ℕ). Back x P s 
 module _ (t : Table) (v : Valid t) (s : List ℕ) where
   -- so many phases from place k on
   phasesFrom : (left k : ℕ) → List ℕ
-  phasesFrom left k = joinTo left (λ j. phaseNumbers (t .work) (t .cost) (k + j))
+  phasesFrom left k = joinTo left (λ j. phaseItems (t .work) (t .cost) (k + j))
 
   phase-more : (left k : ℕ) → phasesFrom (suc left) k ≡ getD (t .work) k 0 ∷ getD (t .cost) k 0 ∷ phasesFrom left (k + 1)
   unfolding phasesFrom
-  phase-more left k = join-from left k (phaseNumbers (t .work) (t .cost))
+  phase-more left k = join-from left k (phaseItems (t .work) (t .cost))
 
   no-phases : (k : ℕ) → phasesFrom 0 k ≡ []
   unfolding phasesFrom joinTo
@@ -110,8 +110,8 @@ module _ (t : Table) (v : Valid t) (s : List ℕ) where
         spacing = up .spacing;
         deadline = up .deadline;
         phases = up .phases;
-        work = put (up .work) (omega (arith, v .in-range .sized .work));
-        cost = put (up .cost) (omega (arith, v .in-range .sized .cost));
+        work = fill (up .work) (omega (arith, v .in-range .sized .work));
+        cost = fill (up .cost) (omega (arith, v .in-range .sized .cost));
       } in
       let d = phases-back left i (k + 1) (withPhase k c q u) (b .next) r (omega arith) (λ j l m. h j (omega arith) (omega arith)) up′ (b .behind) in
       back-as (phase-more left k) (record {
@@ -154,9 +154,9 @@ module _ (t : Table) (v : Valid t) (s : List ℕ) where
       let there : 8 * i + (k - 8 * i) ≡ k = omega arith in
       subst (PhaseAt (t .work) (t .cost)) there (phase-of t v i (k - 8 * i) h (omega arith))
 
-  task-back : (i : ℕ) (u : Table) (at : ℕ) (r : List ℕ) → i < t .tasks → Upto t i (8 * i) u → Stands s at (taskNumbers t i) r
-      → Back (task i u s at) (Upto t (i + 1) (8 * (i + 1))) s at (taskNumbers t i) r
-  unfolding taskNumbers phasesFrom
+  task-back : (i : ℕ) (u : Table) (at : ℕ) (r : List ℕ) → i < t .tasks → Upto t i (8 * i) u → Stands s at (taskItems t i) r
+      → Back (task i u s at) (Upto t (i + 1) (8 * (i + 1))) s at (taskItems t i) r
+  unfolding taskItems phasesFrom
   task-back i u at r h up e =
       let k = v .in-range .items .task i h in
       let T = getD (t .spacing) i 0 in
@@ -168,9 +168,9 @@ module _ (t : Table) (v : Valid t) (s : List ℕ) where
       let c = number-back 1 phasesMost m s (b .next) own r (omega arith) (omega arith) (omega arith) (b .behind) in
       let up′ : Upto t (i + 1) (8 * i) (withTask i T D m u) = record {
         count = up .count;
-        spacing = put (up .spacing) (omega (arith, v .in-range .sized .spacing, v .in-range .items .tasks));
-        deadline = put (up .deadline) (omega (arith, v .in-range .sized .deadline, v .in-range .items .tasks));
-        phases = put (up .phases) (omega (arith, v .in-range .sized .phases, v .in-range .items .tasks));
+        spacing = fill (up .spacing) (omega (arith, v .in-range .sized .spacing, v .in-range .items .tasks));
+        deadline = fill (up .deadline) (omega (arith, v .in-range .sized .deadline, v .in-range .items .tasks));
+        phases = fill (up .phases) (omega (arith, v .in-range .sized .phases, v .in-range .items .tasks));
         work = up .work;
         cost = up .cost;
       } in
@@ -186,19 +186,19 @@ module _ (t : Table) (v : Valid t) (s : List ℕ) where
 
   -- so many tasks from task i on
   tasksFrom : (left i : ℕ) → List ℕ
-  tasksFrom left i = joinTo left (λ k. taskNumbers t (i + k))
+  tasksFrom left i = joinTo left (λ k. taskItems t (i + k))
 
-  task-more : (left i : ℕ) → tasksFrom (suc left) i ≡ taskNumbers t i ++ tasksFrom left (i + 1)
+  task-more : (left i : ℕ) → tasksFrom (suc left) i ≡ taskItems t i ++ tasksFrom left (i + 1)
   unfolding tasksFrom
-  task-more left i = join-from left i (taskNumbers t)
+  task-more left i = join-from left i (taskItems t)
 
   no-tasks : (i : ℕ) → tasksFrom 0 i ≡ []
   unfolding tasksFrom joinTo
   no-tasks i = refl
 
-  all-tasks : tasksFrom (t .tasks) 0 ≡ joinTo (t .tasks) (taskNumbers t)
+  all-tasks : tasksFrom (t .tasks) 0 ≡ joinTo (t .tasks) (taskItems t)
   unfolding tasksFrom
-  all-tasks = join-alike (t .tasks) (λ k. taskNumbers t (0 + k)) (taskNumbers t) (λ k l. ap (taskNumbers t) (zero-add k))
+  all-tasks = join-alike (t .tasks) (λ k. taskItems t (0 + k)) (taskItems t) (λ k l. ap (taskItems t) (zero-add k))
 
   tasks-back : (left i : ℕ) (u : Table) (at : ℕ) (r : List ℕ) → i + left ≡ t .tasks → Upto t i (8 * i) u → Stands s at (tasksFrom left i) r
       → Back (each task left i u s at) (Upto t (t .tasks) (8 * t .tasks)) s at (tasksFrom left i) r
@@ -213,14 +213,14 @@ module _ (t : Table) (v : Valid t) (s : List ℕ) where
   })
   tasks-back (suc left) i u at r all up e =
       let rest = tasksFrom left (i + 1) in
-      let a = task-back i u at (encodeAll rest ++ r) (omega arith) up (split (taskNumbers t i) rest at r (rw (task-more left i) at e)) in
+      let a = task-back i u at (encodeAll rest ++ r) (omega arith) up (split (taskItems t i) rest at r (rw (task-more left i) at e)) in
       let b = tasks-back left (i + 1) (a .filled) (a .next) r (omega arith) (a .holds) (a .behind) in
       back-as (task-more left i) (record {
         filled = b .filled;
         next = b .next;
         is = rw (a .is) (b .is);
         holds = b .holds;
-        place = omega (arith, a .place, b .place, append (taskNumbers t i) rest);
+        place = omega (arith, a .place, b .place, append (taskItems t i) rest);
         behind = b .behind;
       })
     where

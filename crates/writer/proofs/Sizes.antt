@@ -11,7 +11,7 @@ use Rattle.model.specs.Ranges.{costMost, workMost}
 use Rattle.model.specs.laws.Arrays.{phase-at}
 use Rattle.table.specs.declared.Table.{Table}
 use Rattle.table.specs.Valid.{Valid}
-use Rattle.writer.specs.Written.{phaseNumbers, taskNumbers, tableBytes}
+use Rattle.writer.specs.Written.{phaseItems, taskItems, tableBytes}
 
 -- a phase in its range, at a place of the arrays
 pub record PhaseAt (work cost : List ℕ) (place : ℕ) : Type 0 where
@@ -32,24 +32,24 @@ phase-of t v i j h l =
     }
 
 module _ (t : Table) (v : Valid t) where
-  phase-short : (place : ℕ) → PhaseAt (t .work) (t .cost) place → length (encodeAll (phaseNumbers (t .work) (t .cost) place)) ≤ 8
+  phase-short : (place : ℕ) → PhaseAt (t .work) (t .cost) place → length (encodeAll (phaseItems (t .work) (t .cost) place)) ≤ 8
   phase-short k p =
       let c = getD (t .work) k 0 in
       let q = getD (t .cost) k 0 in
       omega (arith, cons c (q ∷ []), cons q [], none, short 3 7 c (omega arith), short 3 7 q (omega arith))
 
-  task-short : (i : ℕ) → i < t .tasks → length (encodeAll (taskNumbers t i)) ≤ 75
-  unfolding taskNumbers
+  task-short : (i : ℕ) → i < t .tasks → length (encodeAll (taskItems t i)) ≤ 75
+  unfolding taskItems
   task-short i h =
       let k = v .in-range .items .task i h in
       let T = getD (t .spacing) i 0 in
       let D = getD (t .deadline) i 0 in
       let m = getD (t .phases) i 0 in
-      let own = joinTo m (λ j. phaseNumbers (t .work) (t .cost) (8 * i + j)) in
+      let own = joinTo m (λ j. phaseItems (t .work) (t .cost) (8 * i + j)) in
       omega (
         arith,
         k .phases-most,
-        join-short 8 m (λ j. phaseNumbers (t .work) (t .cost) (8 * i + j)) (λ j l. phase-short (8 * i + j) (phase-of t v i j h l)),
+        join-short 8 m (λ j. phaseItems (t .work) (t .cost) (8 * i + j)) (λ j l. phase-short (8 * i + j) (phase-of t v i j h l)),
         cons T (D ∷ m ∷ own),
         cons D (m ∷ own),
         cons m own,
@@ -63,7 +63,7 @@ module _ (t : Table) (v : Valid t) where
       let most = v .in-range .items .tasks in
       omega (
         arith,
-        cons (t .tasks) (joinTo (t .tasks) (taskNumbers t)),
-        join-short 75 (t .tasks) (taskNumbers t) task-short,
+        cons (t .tasks) (joinTo (t .tasks) (taskItems t)),
+        join-short 75 (t .tasks) (taskItems t) task-short,
         short 0 7 (t .tasks) (omega arith),
       )

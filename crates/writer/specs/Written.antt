@@ -14,29 +14,29 @@ use Rattle.writer.specs.declared.TableWritten.{TableWritten}
 use Rattle.writer.specs.declared.TableWritten.the-variants.{Wrote, NoRoom, OutOfRange}
 
 -- a phase, at a place of the arrays: c, q
-abbrev pub phaseNumbers : (work cost : List ℕ) → ℕ → List ℕ
-phaseNumbers work cost place = getD work place 0 ∷ getD cost place 0 ∷ []
+abbrev pub phaseItems : (work cost : List ℕ) → ℕ → List ℕ
+phaseItems work cost place = getD work place 0 ∷ getD cost place 0 ∷ []
 
 -- a task: T, D, the number of phases; then its phases, from place 8 i on
-unfoldable pub taskNumbers : Table → ℕ → List ℕ
-taskNumbers t i =
+unfoldable pub taskItems : Table → ℕ → List ℕ
+taskItems t i =
     getD (t .spacing) i 0 ∷ getD (t .deadline) i 0 ∷ getD (t .phases) i 0
-    ∷ joinTo (getD (t .phases) i 0) (λ j. phaseNumbers (t .work) (t .cost) (8 * i + j))
+    ∷ joinTo (getD (t .phases) i 0) (λ j. phaseItems (t .work) (t .cost) (8 * i + j))
 
 -- a table: the number of tasks, the tasks, and nothing behind them
-abbrev pub tableNumbers : Table → List ℕ
-tableNumbers t = t .tasks ∷ joinTo (t .tasks) (taskNumbers t)
+abbrev pub tableItems : Table → List ℕ
+tableItems t = t .tasks ∷ joinTo (t .tasks) (taskItems t)
 
 abbrev pub tableBytes : Table → List ℕ
-tableBytes t = encodeAll (tableNumbers t)
+tableBytes t = encodeAll (tableItems t)
 
 -- whether there are more than 32 tasks, or more than 8 phases in one of them: what a table's arrays do not hold
 unfoldable pub overfull : Table → Bool
 overfull t = ltb tasksMost (t .tasks) || anyTo (t .tasks) (λ i. ltb phasesMost (getD (t .phases) i 0))
 
 -- what writing a table into a buffer of so many bytes answers
-abbrev pub answerOf : Table → (room : ℕ) → TableWritten
-answerOf t room =
+abbrev pub resultOf : Table → (room : ℕ) → TableWritten
+resultOf t room =
     if overfull t then OutOfRange
     else if ltb room (length (tableBytes t)) then NoRoom
     else Wrote (length (tableBytes t))
@@ -50,5 +50,5 @@ bufferOf t buffer =
 
 -- what writing gives and leaves
 pub record Writes (t : Table) (before after : List ℕ) (result : TableWritten) : Type 0 where
-  pub result-is : result ≡ answerOf t (length before)
+  pub result-is : result ≡ resultOf t (length before)
   pub after-is : after ≡ bufferOf t before

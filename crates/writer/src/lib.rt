@@ -11,7 +11,7 @@ ghost use lib.ListN.{length, getD};
 ghost use Rattle.model.specs.Ranges.{phasesMost, tasksMost};
 ghost use Rattle.finite.specs.Finite.{anyTo, joinTo};
 ghost use Rattle.groups.specs.Pass.{Fits, Passed};
-ghost use Rattle.writer.specs.Written.{phaseNumbers, taskNumbers, tableNumbers, overfull, Writes};
+ghost use Rattle.writer.specs.Written.{phaseItems, taskItems, tableItems, overfull, Writes};
 
 // What writing a table answers: the number of its bytes, or why nothing was written.
 pub enum TableWritten {
@@ -59,8 +59,8 @@ fn phases<'a>(
     count: usize,
     put: bool,
 ) -> usize
-    requires { ⌜ (first + count ≤ 256) × Fits put (now out) at (joinTo count (λ j. phaseNumbers (now work) (now cost) (first + j))) ⌝ }
-    ensures { λ r. ⌜ Passed put (now (out .entry)) (now (out .exit)) at r (joinTo count (λ j. phaseNumbers (now (work .entry)) (now (cost .entry)) (first + j))) ⌝ }
+    requires { ⌜ (first + count ≤ 256) × Fits put (now out) at (joinTo count (λ j. phaseItems (now work) (now cost) (first + j))) ⌝ }
+    ensures { λ r. ⌜ Passed put (now (out .entry)) (now (out .exit)) at r (joinTo count (λ j. phaseItems (now (work .entry)) (now (cost .entry)) (first + j))) ⌝ }
 {
     let mut next = at;
     let mut j: usize = 0;
@@ -83,8 +83,8 @@ fn task<'a>(
     first: usize,
     put: bool,
 ) -> usize
-    requires { ⌜ (first + count ≤ 256) × Fits put (now out) at (spacing ∷ deadline ∷ count ∷ joinTo count (λ j. phaseNumbers (now work) (now cost) (first + j))) ⌝ }
-    ensures { λ r. ⌜ Passed put (now (out .entry)) (now (out .exit)) at r (spacing ∷ deadline ∷ count ∷ joinTo count (λ j. phaseNumbers (now (work .entry)) (now (cost .entry)) (first + j))) ⌝ }
+    requires { ⌜ (first + count ≤ 256) × Fits put (now out) at (spacing ∷ deadline ∷ count ∷ joinTo count (λ j. phaseItems (now work) (now cost) (first + j))) ⌝ }
+    ensures { λ r. ⌜ Passed put (now (out .entry)) (now (out .exit)) at r (spacing ∷ deadline ∷ count ∷ joinTo count (λ j. phaseItems (now (work .entry)) (now (cost .entry)) (first + j))) ⌝ }
 {
     let next = three(out, at, spacing, deadline, count, put);
     phases(out, next, work, cost, first, count as usize, put)
@@ -92,8 +92,8 @@ fn task<'a>(
 
 // The tasks; the arrays have 32 places, and 8 for the phases of a task.
 fn tasks(out: &mut [u8], at: usize, table: Table, put: bool) -> usize
-    requires { ⌜ (table .tasks ≤ tasksMost) × (overfull table ≡ false) × Fits put (now out) at (joinTo (table .tasks) (taskNumbers table)) ⌝ }
-    ensures { λ r. ⌜ Passed put (now (out .entry)) (now (out .exit)) at r (joinTo (table .tasks) (taskNumbers table)) ⌝ }
+    requires { ⌜ (table .tasks ≤ tasksMost) × (overfull table ≡ false) × Fits put (now out) at (joinTo (table .tasks) (taskItems table)) ⌝ }
+    ensures { λ r. ⌜ Passed put (now (out .entry)) (now (out .exit)) at r (joinTo (table .tasks) (taskItems table)) ⌝ }
 {
     let mut next = at;
     let mut i: usize = 0;
@@ -116,8 +116,8 @@ fn tasks(out: &mut [u8], at: usize, table: Table, put: bool) -> usize
 
 // The whole table: the number of tasks, and the tasks.
 fn numbers(out: &mut [u8], table: Table, put: bool) -> usize
-    requires { ⌜ (table .tasks ≤ tasksMost) × (overfull table ≡ false) × Fits put (now out) 0 (tableNumbers table) ⌝ }
-    ensures { λ r. ⌜ Passed put (now (out .entry)) (now (out .exit)) 0 r (tableNumbers table) ⌝ }
+    requires { ⌜ (table .tasks ≤ tasksMost) × (overfull table ≡ false) × Fits put (now out) 0 (tableItems table) ⌝ }
+    ensures { λ r. ⌜ Passed put (now (out .entry)) (now (out .exit)) 0 r (tableItems table) ⌝ }
 {
     let at = number(out, 0, table.tasks as u32, put);
     tasks(out, at, table, put)

@@ -2,12 +2,12 @@
 use Prim.Native.Nat.{_+_, _-_}
 use borrow.Author.Needs.{needs}
 use Rattle.groups.proofs.Passes.{Passing, begins, part-fits, part-passed, all-passed, same-long}
-use Rattle.writer.specs.Written.{phaseNumbers}
+use Rattle.writer.specs.Written.{phaseItems}
 use Rattle.writer.proofs.phases.Statement.{statement}
 use Rattle.writer.proofs.phases.Tie as tie
 
 abbrev Inv-loop : tie.InvT-loop
-Inv-loop out₀ at work cost first count put p₀ j₀ out p j = Passing put out₀ at count (λ k. phaseNumbers work cost (first + k)) out p j
+Inv-loop out₀ at work cost first count put p₀ j₀ out p j = Passing put out₀ at count (λ k. phaseItems work cost (first + k)) out p j
 
 abbrev μ-loop : tie.MeasureT-loop
 μ-loop out₀ at work cost first count put p₀ j₀ out p j = count - j

@@ -2,13 +2,13 @@
 use Prim.Native.Nat.{_-_}
 use borrow.Author.Needs.{needs}
 use Rattle.groups.proofs.Passes.{Passing, begins, part-fits, part-passed, all-passed, same-long}
-use Rattle.writer.specs.Written.{taskNumbers}
+use Rattle.writer.specs.Written.{taskItems}
 use Rattle.writer.proofs.Outcomes.{phases-inside}
 use Rattle.writer.proofs.tasks.Statement.{statement}
 use Rattle.writer.proofs.tasks.Tie as tie
 
 abbrev Inv-loop : tie.InvT-loop
-Inv-loop out₀ at put table p₀ i₀ out p i = Passing put out₀ at (table .tasks) (taskNumbers table) out p i
+Inv-loop out₀ at put table p₀ i₀ out p i = Passing put out₀ at (table .tasks) (taskItems table) out p i
 
 abbrev μ-loop : tie.MeasureT-loop
 μ-loop out₀ at put table p₀ i₀ out p i = table .tasks - i
@@ -38,7 +38,7 @@ mul-task-4 : tie.Need-mul-task-4 Inv-loop μ-loop
 mul-task-4 c = search needs
 
 task-requires : tie.Need-task-requires Inv-loop μ-loop
-unfolding taskNumbers
+unfolding taskItems
 task-requires c κs = (search (needs, phases-inside), search (needs, part-fits))
 
 add-i : tie.Need-add-i Inv-loop μ-loop
@@ -48,7 +48,7 @@ loop-less : tie.Need-loop-less Inv-loop μ-loop
 loop-less c = search needs
 
 loop-again : tie.Need-loop-again Inv-loop μ-loop
-unfolding taskNumbers
+unfolding taskItems
 loop-again c = search (needs, part-passed)
 
 same-length : tie.Need-same-length Inv-loop μ-loop
