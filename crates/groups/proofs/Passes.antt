@@ -11,7 +11,7 @@ use Rattle.finite.specs.Finite.{joinTo, listTo}
 use Rattle.finite.specs.If.{if_then_else_}
 use Rattle.finite.specs.laws.Lists.{join-more, join-part, list-join}
 use Rattle.groups.specs.Encode.{encode, encodeAll}
-use Rattle.groups.specs.Pass.{Fits, Passed}
+use Rattle.groups.specs.Pass.{RoomFor, Passed}
 use Rattle.groups.proofs.Numbers.{encodeAll-append, encodeAll-one, append}
 
 -- ---- one part behind the other
@@ -33,11 +33,11 @@ left-long false before at xs = refl
 pub same-long : {put : Bool} {before after : List ℕ} {at next : ℕ} {numbers : List ℕ} → Passed put before after at next numbers → length after ≡ length before
 same-long {put} {before} {after} {at} {next} {numbers} w = ap length (w .after-is) ∙ left-long put before at (encodeAll numbers)
 
-pub first-fits : {put : Bool} {before : List ℕ} {at : ℕ} (xs ys : List ℕ) → Fits put before at (xs ++ ys) → Fits put before at xs
+pub first-fits : {put : Bool} {before : List ℕ} {at : ℕ} (xs ys : List ℕ) → RoomFor put before at (xs ++ ys) → RoomFor put before at xs
 first-fits xs ys f = record { most = omega (arith, f .most, append xs ys) }
 
-pub then-fits : {put : Bool} {before after : List ℕ} {at next : ℕ} {xs : List ℕ} (ys : List ℕ) → Passed put before after at next xs → Fits put before at (xs ++ ys)
-    → Fits put after next ys
+pub then-fits : {put : Bool} {before after : List ℕ} {at next : ℕ} {xs : List ℕ} (ys : List ℕ) → Passed put before after at next xs → RoomFor put before at (xs ++ ys)
+    → RoomFor put after next ys
 then-fits {put} {before} {after} {at} {next} {xs} ys w f = record {
   most = subst (λ (k : ℕ). next + length (encodeAll ys) ≤ (if put then k else 1_000_000)) (sym (same-long w)) (omega (arith, f .most, append xs ys, w .next-is));
 }
@@ -54,19 +54,19 @@ then-passed {put} {before} {between} {after} {at} {p} {next} {xs} {ys} v w = rec
 -- ---- one number
 
 -- in front of others
-pub number-fits : {put : Bool} {before : List ℕ} {at n : ℕ} (ns : List ℕ) → Fits put before at (n ∷ ns) → Fits put before at (n ∷ [])
+pub number-fits : {put : Bool} {before : List ℕ} {at n : ℕ} (ns : List ℕ) → RoomFor put before at (n ∷ ns) → RoomFor put before at (n ∷ [])
 number-fits {n = n} ns f = first-fits (n ∷ []) ns f
 
 -- behind one that was passed, and behind two
-pub rest-fits : {put : Bool} {before after : List ℕ} {at next n : ℕ} {ns : List ℕ} → Passed put before after at next (n ∷ []) → Fits put before at (n ∷ ns) → Fits put after next ns
+pub rest-fits : {put : Bool} {before after : List ℕ} {at next n : ℕ} {ns : List ℕ} → Passed put before after at next (n ∷ []) → RoomFor put before at (n ∷ ns) → RoomFor put after next ns
 rest-fits {ns = ns} w f = then-fits ns w f
 
-pub second-fits : {put : Bool} {before after : List ℕ} {at next n m : ℕ} {ns : List ℕ} → Passed put before after at next (n ∷ []) → Fits put before at (n ∷ m ∷ ns)
-    → Fits put after next (m ∷ [])
+pub second-fits : {put : Bool} {before after : List ℕ} {at next n m : ℕ} {ns : List ℕ} → Passed put before after at next (n ∷ []) → RoomFor put before at (n ∷ m ∷ ns)
+    → RoomFor put after next (m ∷ [])
 second-fits {ns = ns} w f = number-fits ns (rest-fits w f)
 
 pub third-fits : {put : Bool} {before between after : List ℕ} {at p next n m k : ℕ} {ns : List ℕ} → Passed put before between at p (n ∷ []) → Passed put between after p next (m ∷ [])
-    → Fits put before at (n ∷ m ∷ k ∷ ns) → Fits put after next (k ∷ [])
+    → RoomFor put before at (n ∷ m ∷ k ∷ ns) → RoomFor put after next (k ∷ [])
 third-fits v w f = second-fits w (rest-fits v f)
 
 pub number-passed : {put : Bool} {before between after : List ℕ} {at p next n : ℕ} {ns : List ℕ} → Passed put before between at p (n ∷ []) → Passed put between after p next ns
@@ -77,18 +77,18 @@ pub three-passed : {put : Bool} {before between after : List ℕ} {at p next a b
     → Passed put before after at next (a ∷ b ∷ c ∷ ns)
 three-passed v w = then-passed v w
 
-pub three-fit : {put : Bool} {before : List ℕ} {at a b c : ℕ} (ns : List ℕ) → Fits put before at (a ∷ b ∷ c ∷ ns) → Fits put before at (a ∷ b ∷ c ∷ [])
+pub three-fit : {put : Bool} {before : List ℕ} {at a b c : ℕ} (ns : List ℕ) → RoomFor put before at (a ∷ b ∷ c ∷ ns) → RoomFor put before at (a ∷ b ∷ c ∷ [])
 three-fit {a = a} {b = b} {c = c} ns f = first-fits (a ∷ b ∷ c ∷ []) ns f
 
-pub behind-three-fits : {put : Bool} {before after : List ℕ} {at next a b c : ℕ} {ns : List ℕ} → Passed put before after at next (a ∷ b ∷ c ∷ []) → Fits put before at (a ∷ b ∷ c ∷ ns)
-    → Fits put after next ns
+pub behind-three-fits : {put : Bool} {before after : List ℕ} {at next a b c : ℕ} {ns : List ℕ} → Passed put before after at next (a ∷ b ∷ c ∷ []) → RoomFor put before at (a ∷ b ∷ c ∷ ns)
+    → RoomFor put after next ns
 behind-three-fits {ns = ns} v f = then-fits ns v f
 
 -- alone
-pub one-fits : {put : Bool} {out : List ℕ} {at : ℕ} (value : ℕ) → put ≡ true → Fits put out at (value ∷ []) → at + length (encode value) ≤ length out
+pub one-fits : {put : Bool} {out : List ℕ} {at : ℕ} (value : ℕ) → put ≡ true → RoomFor put out at (value ∷ []) → at + length (encode value) ≤ length out
 one-fits {out = out} value e f = omega (arith, f .most, ap length (encodeAll-one value), ap (λ (b : Bool). if b then length out else 1_000_000) e)
 
-pub one-small : {put : Bool} {out : List ℕ} {at : ℕ} (value : ℕ) → put ≡ false → Fits put out at (value ∷ []) → at + length (encode value) ≤ 1_000_000
+pub one-small : {put : Bool} {out : List ℕ} {at : ℕ} (value : ℕ) → put ≡ false → RoomFor put out at (value ∷ []) → at + length (encode value) ≤ 1_000_000
 one-small {out = out} value e f = omega (arith, f .most, ap length (encodeAll-one value), ap (λ (b : Bool). if b then length out else 1_000_000) e)
 
 pub one-put : {put : Bool} {before after : List ℕ} {at next : ℕ} {value : ℕ} → put ≡ true → next ≡ at + length (encode value) → after ≡ sets before at (encode value)
@@ -102,11 +102,11 @@ one-measured {value = value} p e = record { next-is = omega (arith, ap length (e
 
 -- a loop over n parts, from `at` of `before` on, has passed i of them, and is at p of `out`
 pub record Passing (put : Bool) (before : List ℕ) (at n : ℕ) (parts : ℕ → List ℕ) (out : List ℕ) (p i : ℕ) : Type 0 where
-  pub fits : Fits put before at (joinTo n parts)
+  pub fits : RoomFor put before at (joinTo n parts)
   pub so-far : Passed put before out at p (joinTo i parts)
   pub within : i ≤ n
 
-pub begins : {put : Bool} {before : List ℕ} {at n : ℕ} {parts : ℕ → List ℕ} → Fits put before at (joinTo n parts) → Passing put before at n parts before at 0
+pub begins : {put : Bool} {before : List ℕ} {at n : ℕ} {parts : ℕ → List ℕ} → RoomFor put before at (joinTo n parts) → Passing put before at n parts before at 0
 unfolding joinTo encodeAll
 begins {put} {before} {at} f = record { fits = f; so-far = record { next-is = sym (add-zero at); after-is = nothing put }; within = omega arith }
   where
@@ -116,7 +116,7 @@ begins {put} {before} {at} f = record { fits = f; so-far = record { next-is = sy
 
 module _ {put : Bool} {before : List ℕ} {at n : ℕ} {parts : ℕ → List ℕ} {out : List ℕ} {p i : ℕ} (l : Passing put before at n parts out p i) where
   -- the part that is due has room
-  pub part-fits : {ns : List ℕ} → i < n → ns ≡ parts i → Fits put out p ns
+  pub part-fits : {ns : List ℕ} → i < n → ns ≡ parts i → RoomFor put out p ns
   part-fits {ns} h e = record {
     most =
         let r = join-part (i + 1) n parts (omega arith) in
@@ -145,8 +145,8 @@ module _ {put : Bool} {before : List ℕ} {at n : ℕ} {parts : ℕ → List ℕ
   all-passed h = subst (λ (k : ℕ). Passed put before out at p (joinTo k parts)) (le-antisymm (l .within) h) (l .so-far)
 
 -- the same of a loop that passes one number a turn
-pub begins-list : {put : Bool} {before : List ℕ} {at n : ℕ} {f : ℕ → ℕ} → Fits put before at (listTo n f) → Passing put before at n (λ k. f k ∷ []) before at 0
-begins-list {put} {before} {at} {n} {f} h = begins (subst (Fits put before at) (list-join n f) h)
+pub begins-list : {put : Bool} {before : List ℕ} {at n : ℕ} {f : ℕ → ℕ} → RoomFor put before at (listTo n f) → Passing put before at n (λ k. f k ∷ []) before at 0
+begins-list {put} {before} {at} {n} {f} h = begins (subst (RoomFor put before at) (list-join n f) h)
 
 pub all-listed : {put : Bool} {before : List ℕ} {at n : ℕ} {f : ℕ → ℕ} {out : List ℕ} {p i : ℕ} → Passing put before at n (λ k. f k ∷ []) out p i → n ≤ i
     → Passed put before out at p (listTo n f)

@@ -12,7 +12,7 @@ use Rattle.groups.specs.Encode.{encodeAll}
 
 -- The numbers' bytes have room from `at` on: in the buffer where they are put, and where they are only measured below a bound so large that
 -- no buffer's place is.
-pub record Fits (put : Bool) (out : List ℕ) (at : ℕ) (numbers : List ℕ) : Type 0 where
+pub record RoomFor (put : Bool) (out : List ℕ) (at : ℕ) (numbers : List ℕ) : Type 0 where
   pub most : at + length (encodeAll numbers) ≤ (if put then length out else 1_000_000)
 
 -- The place behind the numbers' bytes; they stand from `at` on where they were put, and otherwise the buffer is as found.

@@ -12,7 +12,7 @@ use Rattle.model.specs.Ranges.{phasesMost, tasksMost}
 use Rattle.finite.specs.Finite.{anyTo}
 use Rattle.finite.specs.laws.Tests.{failed, le-or-lt, ltb-decides}
 use Rattle.finite.specs.laws.Searches.{any-decides}
-use Rattle.groups.specs.Pass.{Fits, Passed}
+use Rattle.groups.specs.Pass.{RoomFor, Passed}
 use Rattle.groups.proofs.Numbers.{eight-each, join-count}
 use Rattle.groups.proofs.Passes.{in-front}
 use Rattle.table.specs.declared.Table.{Table}
@@ -69,7 +69,7 @@ task-few t i h =
     omega arith
 
 module _ (t : Table) (e : overfull t ≡ false) where
-  pub can-be-measured : {out : List ℕ} → Fits false out 0 (tableItems t)
+  pub can-be-measured : {out : List ℕ} → RoomFor false out 0 (tableItems t)
   can-be-measured = record {
     most =
         let h = in-arrays t e in
@@ -77,7 +77,7 @@ module _ (t : Table) (e : overfull t ≡ false) where
   }
 
   module _ {before between : List ℕ} {n : ℕ} (v : Passed false before between 0 n (tableItems t)) where
-    pub measured-fits : n ≤ length between → Fits true between 0 (tableItems t)
+    pub measured-fits : n ≤ length between → RoomFor true between 0 (tableItems t)
     measured-fits h = record { most = omega (arith, v .next-is) }
 
     pub no-room : length between < n → Writes t before between NoRoom

@@ -10,7 +10,7 @@ ghost use lib.Dec.{ltb};
 ghost use lib.ListN.{length, getD};
 ghost use Rattle.model.specs.Ranges.{phasesMost, tasksMost};
 ghost use Rattle.finite.specs.Finite.{anyTo, joinTo};
-ghost use Rattle.groups.specs.Pass.{Fits, Passed};
+ghost use Rattle.groups.specs.Pass.{RoomFor, Passed};
 ghost use Rattle.writer.specs.Written.{phaseItems, taskItems, tableItems, overfull, Writes};
 
 // What writing a table answers: the number of its bytes, or why nothing was written.
@@ -22,7 +22,7 @@ pub enum TableWritten {
 
 // One number.
 fn number(out: &mut [u8], at: usize, value: u32, put: bool) -> usize
-    requires { ⌜ Fits put (now out) at (value ∷ []) ⌝ }
+    requires { ⌜ RoomFor put (now out) at (value ∷ []) ⌝ }
     ensures { λ r. ⌜ Passed put (now (out .entry)) (now (out .exit)) at r (value ∷ []) ⌝ }
 {
     if put {
@@ -33,7 +33,7 @@ fn number(out: &mut [u8], at: usize, value: u32, put: bool) -> usize
 
 // Two numbers: a phase's c, q.
 fn two(out: &mut [u8], at: usize, first: u32, second: u32, put: bool) -> usize
-    requires { ⌜ Fits put (now out) at (first ∷ second ∷ []) ⌝ }
+    requires { ⌜ RoomFor put (now out) at (first ∷ second ∷ []) ⌝ }
     ensures { λ r. ⌜ Passed put (now (out .entry)) (now (out .exit)) at r (first ∷ second ∷ []) ⌝ }
 {
     let next = number(out, at, first, put);
@@ -42,7 +42,7 @@ fn two(out: &mut [u8], at: usize, first: u32, second: u32, put: bool) -> usize
 
 // Three numbers: a task's T, D, and its number of phases.
 fn three(out: &mut [u8], at: usize, first: u32, second: u32, third: u32, put: bool) -> usize
-    requires { ⌜ Fits put (now out) at (first ∷ second ∷ third ∷ []) ⌝ }
+    requires { ⌜ RoomFor put (now out) at (first ∷ second ∷ third ∷ []) ⌝ }
     ensures { λ r. ⌜ Passed put (now (out .entry)) (now (out .exit)) at r (first ∷ second ∷ third ∷ []) ⌝ }
 {
     let next = number(out, at, first, put);
@@ -59,7 +59,7 @@ fn phases<'a>(
     count: usize,
     put: bool,
 ) -> usize
-    requires { ⌜ (first + count ≤ 256) × Fits put (now out) at (joinTo count (λ j. phaseItems (now work) (now cost) (first + j))) ⌝ }
+    requires { ⌜ (first + count ≤ 256) × RoomFor put (now out) at (joinTo count (λ j. phaseItems (now work) (now cost) (first + j))) ⌝ }
     ensures { λ r. ⌜ Passed put (now (out .entry)) (now (out .exit)) at r (joinTo count (λ j. phaseItems (now (work .entry)) (now (cost .entry)) (first + j))) ⌝ }
 {
     let mut next = at;
@@ -83,7 +83,7 @@ fn task<'a>(
     first: usize,
     put: bool,
 ) -> usize
-    requires { ⌜ (first + count ≤ 256) × Fits put (now out) at (spacing ∷ deadline ∷ count ∷ joinTo count (λ j. phaseItems (now work) (now cost) (first + j))) ⌝ }
+    requires { ⌜ (first + count ≤ 256) × RoomFor put (now out) at (spacing ∷ deadline ∷ count ∷ joinTo count (λ j. phaseItems (now work) (now cost) (first + j))) ⌝ }
     ensures { λ r. ⌜ Passed put (now (out .entry)) (now (out .exit)) at r (spacing ∷ deadline ∷ count ∷ joinTo count (λ j. phaseItems (now (work .entry)) (now (cost .entry)) (first + j))) ⌝ }
 {
     let next = three(out, at, spacing, deadline, count, put);
@@ -92,7 +92,7 @@ fn task<'a>(
 
 // The tasks; the arrays have 32 places, and 8 for the phases of a task.
 fn tasks(out: &mut [u8], at: usize, table: Table, put: bool) -> usize
-    requires { ⌜ (table .tasks ≤ tasksMost) × (overfull table ≡ false) × Fits put (now out) at (joinTo (table .tasks) (taskItems table)) ⌝ }
+    requires { ⌜ (table .tasks ≤ tasksMost) × (overfull table ≡ false) × RoomFor put (now out) at (joinTo (table .tasks) (taskItems table)) ⌝ }
     ensures { λ r. ⌜ Passed put (now (out .entry)) (now (out .exit)) at r (joinTo (table .tasks) (taskItems table)) ⌝ }
 {
     let mut next = at;
@@ -116,7 +116,7 @@ fn tasks(out: &mut [u8], at: usize, table: Table, put: bool) -> usize
 
 // The whole table: the number of tasks, and the tasks.
 fn numbers(out: &mut [u8], table: Table, put: bool) -> usize
-    requires { ⌜ (table .tasks ≤ tasksMost) × (overfull table ≡ false) × Fits put (now out) 0 (tableItems table) ⌝ }
+    requires { ⌜ (table .tasks ≤ tasksMost) × (overfull table ≡ false) × RoomFor put (now out) 0 (tableItems table) ⌝ }
     ensures { λ r. ⌜ Passed put (now (out .entry)) (now (out .exit)) 0 r (tableItems table) ⌝ }
 {
     let at = number(out, 0, table.tasks as u32, put);
