@@ -45,9 +45,9 @@ length-by c q x k whole rest more a b ew ea er em eb = rw (ea, ew, em, er, eb)
 pub brought-most : (c q x : ℕ) → c ≤ workMost → q ≤ costMost → x ≤ workMost → c + x * q ≤ phaseMost
 brought-most c q x hc hq hx = omega (arith, mul-le-mul hx hq)
 
-pub piece-most : (c q x : ℕ) → 1 ≤ x → longestPiece c q x ≤ c + q
+pub longest-within : (c q x : ℕ) → 1 ≤ x → longestPiece c q x ≤ c + q
 unfolding longestPiece
-piece-most c q x h = omega (arith, ceil-most c x h)
+longest-within c q x h = omega (arith, ceil-most c x h)
 
 -- what is asked and answered of numbers that were read
 pub fits-by : {a b c q M : ℕ} → a ≡ c → b ≡ q → PhaseFits c q M → PhaseFits a b M
@@ -78,7 +78,7 @@ module _ (S : Tasks) (i : ℕ) where
   unfolding longest
   longest-most x r =
       max-least (S .m i) _
-      (λ j l. let p = r .phase j l in omega (arith, p .work-most, p .cost-most, piece-most (S .c i j) (S .q i j) (x i j) (r .some j l)))
+      (λ j l. let p = r .phase j l in omega (arith, p .work-most, p .cost-most, longest-within (S .c i j) (S .q i j) (x i j) (r .some j l)))
 
 -- where nothing limits a piece, each phase in range has room
 pub room-far : (S : Tasks) (i j : ℕ) → WorkIn (S .c i j) (S .q i j) → phasesOf S .room i j horizonMost ≡ true
