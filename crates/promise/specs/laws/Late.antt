@@ -13,7 +13,7 @@ use Rattle.model.specs.Phase.{Choice, Phases}
 use Rattle.model.specs.Tasks.{Tasks}
 use Rattle.model.specs.Works.{Counted, longest}
 use Rattle.promise.specs.Promise.{Kept, Meets}
-use Rattle.promise.specs.Rules.{Answer, Request, State, answerBy, start, workAt}
+use Rattle.promise.specs.Rules.{Answer, Request, State, answerBy, elapse, initial, start, workAt}
 
 -- what a tick is given: the release mask, the age of each release, the flag
 pub record LateRequest : Type 0 where
@@ -21,18 +21,13 @@ pub record LateRequest : Type 0 where
   pub age : ℕ → ℕ
   pub flag : Bool
 
+-- other spacing counts
+abbrev pub withSince : (ℕ → ℕ) → State → State
+withSince since s = record { busy = s .busy; since = since; left = s .left; phase = s .phase; piece = s .piece; run = s .run; ticks = s .ticks }
+
 -- at the start every task may release at once, with any age
 abbrev pub lateInitial : Tasks → ℕ → State
-lateInitial S lag =
-    record {
-      busy = λ i. false;
-      since = λ i. S .T i + lag;
-      left = λ i. 0;
-      phase = λ i. 0;
-      piece = λ i. 0;
-      run = 0;
-      ticks = 0;
-    }
+lateInitial S lag = withSince (λ i. S .T i + lag) (initial S)
 
 -- 1. a set bit is let in when its task exists, has no unfinished job, its count is at least T + age, and its age is at most the lag
 unfoldable pub letsInAt : Tasks → ℕ → State → (ℕ → Bool) → (ℕ → ℕ) → ℕ → Bool
@@ -74,16 +69,7 @@ Chooses S choose = (s : State) → Chosen s (S .n) (choose s)
 
 -- 4. spacing counts stop at T + lag
 abbrev pub elapseAt : Tasks → ℕ → State → State
-elapseAt S lag s =
-    record {
-      busy = s .busy;
-      since = λ i. min (S .T i + lag) (s .since i + 1);
-      left = λ i. s .left i - 1;
-      phase = s .phase;
-      piece = s .piece;
-      run = s .run;
-      ticks = s .ticks;
-    }
+elapseAt S lag s = withSince (λ i. min (S .T i + lag) (s .since i + 1)) (elapse S s)
 
 -- steps 2 to 4; 3 is document 01's
 abbrev pub lateAdvance : Tasks → Choice → ℕ → (State → ℕ) → Bool → State → State

@@ -9,7 +9,7 @@ use Rattle.model.specs.Phase.{Choice}
 use Rattle.model.specs.Tasks.{Tasks}
 use Rattle.promise.specs.History.{answerAt, recordAt}
 use Rattle.promise.specs.Rules.{Request, State, admit, answerBy, answerOf, elapse, initial, letsIn, pick, pickAt, tick, workAt}
-use Rattle.promise.specs.laws.Late.{LateRequest, admitAt, elapseAt, lateAnswer, lateAnswerAt, lateInitial, lateRecordAt, lateTick, letsInAt, pickBy, pickByAt}
+use Rattle.promise.specs.laws.Late.{LateRequest, admitAt, elapseAt, lateAnswer, lateAnswerAt, lateInitial, lateRecordAt, lateTick, letsInAt, pickBy, pickByAt, withSince}
 use Rattle.promise.specs.laws.Urgent.{bestOf}
 
 -- document 01's request: every release is seen in its own tick
@@ -45,8 +45,7 @@ module _ (S : Tasks) (x : Choice) where
   pub today-elapse : (s : State) → elapseAt S 0 s ≡ elapse S s
   today-elapse s =
       let e : _≡_ {A = ℕ → ℕ} (λ i. min (S .T i + 0) (s .since i + 1)) (λ i. min (S .T i) (s .since i + 1)) = fun-ext (λ i. omega arith) in
-      λ k.
-      record { busy = s .busy; since = e k; left = λ i. s .left i - 1; phase = s .phase; piece = s .piece; run = s .run; ticks = s .ticks }
+      ap (λ since. withSince since (elapse S s)) e
 
   today-pick-at : (s : State) (r : ℕ) → pickByAt S x (bestOf S) s r ≡ pickAt S x s r
   today-pick-at s zero = refl
@@ -71,7 +70,7 @@ module _ (S : Tasks) (x : Choice) where
   pub today-initial : lateInitial S 0 ≡ initial S
   today-initial =
       let e : _≡_ {A = ℕ → ℕ} (λ i. S .T i + 0) (S .T) = fun-ext (λ i. omega arith) in
-      λ k. record { busy = λ i. false; since = e k; left = λ i. 0; phase = λ i. 0; piece = λ i. 0; run = 0; ticks = 0 }
+      ap (λ since. withSince since (initial S)) e
 
   module _ (ask : ℕ → Request) where
     pub today-record : (t : ℕ) → lateRecordAt S x 0 (bestOf S) (λ t. fresh (ask t)) t ≡ recordAt S x ask t
