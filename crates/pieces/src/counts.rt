@@ -16,80 +16,80 @@ ghost use Rattle.pieces.specs.Task.{InPieces, Roomy};
 
 // The count at a place: the least for its task's margin, and 0 where no phase stands.
 fn count_at<'a>(
-    p: usize,
-    n: usize,
-    m: &'a [u32; 32],
-    c: &'a [u32; 256],
-    q: &'a [u32; 256],
+    place: usize,
+    tasks: usize,
+    phases: &'a [u32; 32],
+    work: &'a [u32; 256],
+    cost: &'a [u32; 256],
     cuts: &'a [u64; 32],
 ) -> u64
-    requires { ⌜ (p < 256) × Below n (λ i. Roomy (held (now m) (now c) (now q)) (getD (now cuts) i 0) i) ⌝ }
-    ensures { λ r. ⌜ (r ≡ countAt n (held (now (m .entry)) (now (c .entry)) (now (q .entry))) (λ i. getD (now (cuts .entry)) i 0) p) × (r ≤ workMost) ⌝ }
+    requires { ⌜ (place < 256) × Below tasks (λ i. Roomy (held (now phases) (now work) (now cost)) (getD (now cuts) i 0) i) ⌝ }
+    ensures { λ r. ⌜ (r ≡ countAt tasks (held (now (phases .entry)) (now (work .entry)) (now (cost .entry))) (λ i. getD (now (cuts .entry)) i 0) place) × (r ≤ workMost) ⌝ }
 {
-    let i = p / 8;
-    let j = p % 8;
-    if n <= i {
+    let i = place / 8;
+    let j = place % 8;
+    if tasks <= i {
         return 0;
     }
-    if size(m[i]) <= j {
+    if size(phases[i]) <= j {
         return 0;
     }
-    need_at(i, j, cuts[i], c, q)
+    need_at(i, j, cuts[i], work, cost)
 }
 
 // The counts: the least for each task's margin, in a phase's place; unused places are 0.
 pub fn counts<'a>(
-    n: usize,
-    m: &'a [u32; 32],
-    c: &'a [u32; 256],
-    q: &'a [u32; 256],
+    tasks: usize,
+    phases: &'a [u32; 32],
+    work: &'a [u32; 256],
+    cost: &'a [u32; 256],
     cuts: &'a [u64; 32],
 ) -> [u32; 256]
-    requires { ⌜ Below n (λ i. Roomy (held (now m) (now c) (now q)) (getD (now cuts) i 0) i) ⌝ }
-    ensures { λ r. ⌜ r ≡ listTo 256 (countAt n (held (now (m .entry)) (now (c .entry)) (now (q .entry))) (λ i. getD (now (cuts .entry)) i 0)) ⌝ }
+    requires { ⌜ Below tasks (λ i. Roomy (held (now phases) (now work) (now cost)) (getD (now cuts) i 0) i) ⌝ }
+    ensures { λ r. ⌜ r ≡ listTo 256 (countAt tasks (held (now (phases .entry)) (now (work .entry)) (now (cost .entry))) (λ i. getD (now (cuts .entry)) i 0)) ⌝ }
 {
-    let mut x = [0u32; 256];
-    let mut p: usize = 0;
-    while p < 256 {
-        x[p] = narrow(count_at(p, n, m, c, q, cuts));
-        p += 1;
+    let mut all = [0u32; 256];
+    let mut place: usize = 0;
+    while place < 256 {
+        all[place] = narrow(count_at(place, tasks, phases, work, cost, cuts));
+        place += 1;
     }
-    x
+    all
 }
 
 // The longest piece at a task's place, and 0 where there is no task.
 fn longest_at<'a>(
     i: usize,
-    n: usize,
-    m: &'a [u32; 32],
-    c: &'a [u32; 256],
-    q: &'a [u32; 256],
-    x: &'a [u32; 256],
+    tasks: usize,
+    phases: &'a [u32; 32],
+    work: &'a [u32; 256],
+    cost: &'a [u32; 256],
+    counts: &'a [u32; 256],
 ) -> u64
-    requires { ⌜ Below n (InPieces (held (now m) (now c) (now q)) (phaseAt (now x))) ⌝ }
-    ensures { λ r. ⌜ (r ≡ longestAt n (held (now (m .entry)) (now (c .entry)) (now (q .entry))) (phaseAt (now (x .entry))) i) × (r ≤ pieceMost) ⌝ }
+    requires { ⌜ Below tasks (InPieces (held (now phases) (now work) (now cost)) (phaseAt (now counts))) ⌝ }
+    ensures { λ r. ⌜ (r ≡ longestAt tasks (held (now (phases .entry)) (now (work .entry)) (now (cost .entry))) (phaseAt (now (counts .entry))) i) × (r ≤ pieceMost) ⌝ }
 {
-    if n <= i {
+    if tasks <= i {
         return 0;
     }
-    longest_of(i, m, c, q, x)
+    longest_of(i, phases, work, cost, counts)
 }
 
 // The longest piece of each task; unused places are 0.
 pub fn longests<'a>(
-    n: usize,
-    m: &'a [u32; 32],
-    c: &'a [u32; 256],
-    q: &'a [u32; 256],
-    x: &'a [u32; 256],
+    tasks: usize,
+    phases: &'a [u32; 32],
+    work: &'a [u32; 256],
+    cost: &'a [u32; 256],
+    counts: &'a [u32; 256],
 ) -> [u32; 32]
-    requires { ⌜ Below n (InPieces (held (now m) (now c) (now q)) (phaseAt (now x))) ⌝ }
-    ensures { λ r. ⌜ r ≡ listTo 32 (longestAt n (held (now (m .entry)) (now (c .entry)) (now (q .entry))) (phaseAt (now (x .entry)))) ⌝ }
+    requires { ⌜ Below tasks (InPieces (held (now phases) (now work) (now cost)) (phaseAt (now counts))) ⌝ }
+    ensures { λ r. ⌜ r ≡ listTo 32 (longestAt tasks (held (now (phases .entry)) (now (work .entry)) (now (cost .entry))) (phaseAt (now (counts .entry)))) ⌝ }
 {
     let mut all = [0u32; 32];
     let mut i: usize = 0;
     while i < 32 {
-        all[i] = narrow(longest_at(i, n, m, c, q, x));
+        all[i] = narrow(longest_at(i, tasks, phases, work, cost, counts));
         i += 1;
     }
     all

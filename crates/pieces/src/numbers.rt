@@ -5,59 +5,63 @@ ghost use Rattle.finite.specs.If.{if_then_else_};
 ghost use Rattle.model.specs.Phase.{ceilDiv};
 
 // As wide as sums are formed in.
-pub fn wide(x: u32) -> u64
-    ensures { λ r. ⌜ (r ≡ x) × (r < 4294967296) ⌝ }
+pub fn wide(number: u32) -> u64
+    ensures { λ r. ⌜ (r ≡ number) × (r < 4294967296) ⌝ }
 {
-    x as u64
+    number as u64
 }
 
 // Back to the width of an array's places.
-pub fn narrow(x: u64) -> u32
-    requires { ⌜ x < 4294967296 ⌝ }
-    ensures { λ r. ⌜ r ≡ x ⌝ }
+pub fn narrow(number: u64) -> u32
+    requires { ⌜ number < 4294967296 ⌝ }
+    ensures { λ r. ⌜ r ≡ number ⌝ }
 {
-    x as u32
+    number as u32
 }
 
 // A number that counts places.
-pub fn size(x: u32) -> usize
-    ensures { λ r. ⌜ r ≡ x ⌝ }
+pub fn size(number: u32) -> usize
+    ensures { λ r. ⌜ r ≡ number ⌝ }
 {
-    x as usize
+    number as usize
 }
 
 // The larger of two.
-pub fn larger(a: u64, b: u64) -> u64
-    ensures { λ r. ⌜ r ≡ max a b ⌝ }
+pub fn larger(first: u64, second: u64) -> u64
+    ensures { λ r. ⌜ r ≡ max first second ⌝ }
 {
-    if a < b { b } else { a }
+    if first < second { second } else { first }
 }
 
 // 1 where the test holds.
-pub fn one_if(b: bool) -> u64
-    ensures { λ r. ⌜ (r ≡ (if b then 1 else 0)) × (r < 2) ⌝ }
+pub fn one_if(holds: bool) -> u64
+    ensures { λ r. ⌜ (r ≡ (if holds then 1 else 0)) × (r < 2) ⌝ }
 {
-    if b { 1 } else { 0 }
+    if holds { 1 } else { 0 }
 }
 
 // Division as ℕ has it: by 0 it gives 0.
-pub fn quotient(c: u32, x: u32) -> u32
-    ensures { λ r. ⌜ r ≡ c / x ⌝ }
+pub fn quotient(number: u32, divisor: u32) -> u32
+    ensures { λ r. ⌜ r ≡ number / divisor ⌝ }
 {
-    if x == 0 { 0 } else { c / x }
+    if divisor == 0 { 0 } else { number / divisor }
 }
 
 // What is left: of a division by 0, all.
-pub fn remainder(c: u32, x: u32) -> u32
-    ensures { λ r. ⌜ r ≡ c % x ⌝ }
+pub fn remainder(number: u32, divisor: u32) -> u32
+    ensures { λ r. ⌜ r ≡ number % divisor ⌝ }
 {
-    if x == 0 { c } else { c % x }
+    if divisor == 0 {
+        number
+    } else {
+        number % divisor
+    }
 }
 
-// a divided by b, rounded up.
-pub fn ceil_div(a: u64, b: u64) -> u64
-    requires { ⌜ (0 < b) × (a + b < 2 ^ 64) ⌝ }
-    ensures { λ r. ⌜ r ≡ ceilDiv a b ⌝ }
+// A number divided by another, rounded up.
+pub fn ceil_div(number: u64, divisor: u64) -> u64
+    requires { ⌜ (0 < divisor) × (number + divisor < 2 ^ 64) ⌝ }
+    ensures { λ r. ⌜ r ≡ ceilDiv number divisor ⌝ }
 {
-    (a + (b - 1)) / b
+    (number + (divisor - 1)) / divisor
 }

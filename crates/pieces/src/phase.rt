@@ -1,4 +1,4 @@
-// One phase, by its numbers: work c, switching cost q, count x, margin. The contracts are in the words of model/specs/Phase.
+// One phase, by its numbers: work, switching cost, count, margin. The contracts are in the words of model/specs/Phase.
 use crate::numbers::ceil_div;
 use crate::numbers::one_if;
 use crate::numbers::quotient;
@@ -12,50 +12,50 @@ ghost use Rattle.model.specs.Phase.{hasRoom, longestPiece, needed, pieceLength}
 ghost use Rattle.pieces.specs.Bounds.{phaseMost};
 ghost use Rattle.pieces.specs.Task.{PhaseFits};
 
-// The length of piece k, from 0. It is what ℕ's division gives for every number, so that nobody who asks has to know a range.
-pub fn length(c: u32, q: u32, x: u32, k: u32) -> u64
-    ensures { λ r. ⌜ r ≡ pieceLength c q x k ⌝ }
+// The length of a piece, numbered from 0. It is what ℕ's division gives for every number, so that nobody who asks has to know a range.
+pub fn length(work: u32, cost: u32, count: u32, piece: u32) -> u64
+    ensures { λ r. ⌜ r ≡ pieceLength work cost count piece ⌝ }
 {
-    let whole = wide(quotient(c, x));
-    let more = one_if(k < remainder(c, x));
-    whole + more + wide(q)
+    let whole = wide(quotient(work, count));
+    let more = one_if(piece < remainder(work, count));
+    whole + more + wide(cost)
 }
 
 // The longest piece.
-pub fn longest(c: u32, q: u32, x: u32) -> u64
-    requires { ⌜ 0 < x ⌝ }
-    ensures { λ r. ⌜ (r ≡ longestPiece c q x) × (r ≤ c + q) ⌝ }
+pub fn longest(work: u32, cost: u32, count: u32) -> u64
+    requires { ⌜ 0 < count ⌝ }
+    ensures { λ r. ⌜ (r ≡ longestPiece work cost count) × (r ≤ work + cost) ⌝ }
 {
-    ceil_div(wide(c), wide(x)) + wide(q)
+    ceil_div(wide(work), wide(count)) + wide(cost)
 }
 
 // Whether some count makes every piece fit the margin.
-pub fn room(q: u32, margin: u64) -> bool
-    ensures { λ r. ⌜ r ≡ hasRoom q margin ⌝ }
+pub fn room(cost: u32, margin: u64) -> bool
+    ensures { λ r. ⌜ r ≡ hasRoom cost margin ⌝ }
 {
-    wide(q) < margin
+    wide(cost) < margin
 }
 
 // The least count that does.
-pub fn need(c: u32, q: u32, margin: u64) -> u64
-    requires { ⌜ (hasRoom q margin ≡ true) × (margin ≤ horizonMost) ⌝ }
-    ensures { λ r. ⌜ (r ≡ needed c q margin) × (r ≤ c) ⌝ }
+pub fn need(work: u32, cost: u32, margin: u64) -> u64
+    requires { ⌜ (hasRoom cost margin ≡ true) × (margin ≤ horizonMost) ⌝ }
+    ensures { λ r. ⌜ (r ≡ needed work cost margin) × (r ≤ work) ⌝ }
 {
-    ceil_div(wide(c), margin - wide(q))
+    ceil_div(wide(work), margin - wide(cost))
 }
 
 // What the phase brings to its task's budget under a count.
-pub fn brought(c: u32, q: u32, x: u64) -> u64
-    requires { ⌜ (c ≤ workMost) × (q ≤ costMost) × (x ≤ workMost) ⌝ }
-    ensures { λ r. ⌜ (r ≡ c + x * q) × (r ≤ phaseMost) ⌝ }
+pub fn brought(work: u32, cost: u32, count: u64) -> u64
+    requires { ⌜ (work ≤ workMost) × (cost ≤ costMost) × (count ≤ workMost) ⌝ }
+    ensures { λ r. ⌜ (r ≡ work + count * cost) × (r ≤ phaseMost) ⌝ }
 {
-    wide(c) + x * wide(q)
+    wide(work) + count * wide(cost)
 }
 
 // What it brings under the least count for a margin.
-pub fn least_brought(c: u32, q: u32, margin: u64) -> u64
-    requires { ⌜ PhaseFits c q margin ⌝ }
-    ensures { λ r. ⌜ (r ≡ c + needed c q margin * q) × (r ≤ phaseMost) ⌝ }
+pub fn least_brought(work: u32, cost: u32, margin: u64) -> u64
+    requires { ⌜ PhaseFits work cost margin ⌝ }
+    ensures { λ r. ⌜ (r ≡ work + needed work cost margin * cost) × (r ≤ phaseMost) ⌝ }
 {
-    brought(c, q, need(c, q, margin))
+    brought(work, cost, need(work, cost, margin))
 }

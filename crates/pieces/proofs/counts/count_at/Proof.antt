@@ -16,7 +16,7 @@ abbrev entry : tie.After-size → tie.Start
 entry c = c .before .before .before
 
 abbrev tasks : tie.Start → Tasks
-tasks s = held (s .args .m .now) (s .args .c .now) (s .args .q .now)
+tasks s = held (s .args .phases .now) (s .args .work .now) (s .args .cost .now)
 
 abbrev margins : tie.Start → ℕ → ℕ
 margins s i = getD (s .args .cuts .now) i 0
@@ -45,13 +45,13 @@ element-copy-out-need-at c = search needs
 need-at-requires : tie.Need-need-at-requires
 need-at-requires c κs =
     let s = entry (c .before .before) in
-    let h = count-fits (s .args .n) (tasks s) (margins s) (s .pre .1) (s .args .p) (omega arith) (omega arith) in
+    let h = count-fits (s .args .tasks) (tasks s) (margins s) (s .pre .1) (s .args .place) (omega arith) (omega arith) in
     (omega arith, omega arith, h .0, h .1)
 
 returns-3 : tie.Need-returns-3
 returns-3 c =
     let s = entry (c .before .before .before) in
-    count-least (s .args .n) (tasks s) (margins s) (s .pre .1) (s .args .p) (omega arith) (omega arith) (c .need-at .ensures)
+    count-least (s .args .tasks) (tasks s) (margins s) (s .pre .1) (s .args .place) (omega arith) (omega arith) (c .need-at .ensures)
 
 pub count-at-spec : {M : Type 1} → statement M
 count-at-spec =

@@ -12,10 +12,11 @@ use Rattle.pieces.proofs.counts.counts.Statement.{statement}
 use Rattle.pieces.proofs.counts.counts.Tie as tie
 
 abbrev Inv-loop : tie.InvT-loop
-Inv-loop n m c q cuts x₀ p₀ x p = (p ≤ 256) × (length x₀ ≡ 256) × (x ≡ filled p (countAt n (held m c q) (λ i. getD cuts i 0)) x₀)
+Inv-loop tasks phases work cost cuts all₀ place₀ all place =
+    (place ≤ 256) × (length all₀ ≡ 256) × (all ≡ filled place (countAt tasks (held phases work cost) (λ i. getD cuts i 0)) all₀)
 
 abbrev μ-loop : tie.MeasureT-loop
-μ-loop n m c q cuts x₀ p₀ x p = 256 - p
+μ-loop tasks phases work cost cuts all₀ place₀ all place = 256 - place
 
 loop-holds : tie.Need-loop-holds Inv-loop μ-loop
 loop-holds c = (omega arith, refl, filled-none _ _)
@@ -26,14 +27,14 @@ count-at-requires c κs = search needs
 narrow-requires : tie.Need-narrow-requires Inv-loop μ-loop
 narrow-requires c κs = omega (arith, c .count-at .ensures .1)
 
-mul-x : tie.Need-mul-x Inv-loop μ-loop
-mul-x c = search needs
+mul-all : tie.Need-mul-all Inv-loop μ-loop
+mul-all c = search needs
 
-array-write-x : tie.Need-array-write-x Inv-loop μ-loop
-array-write-x c = search needs
+array-write-all : tie.Need-array-write-all Inv-loop μ-loop
+array-write-all c = search needs
 
-add-p : tie.Need-add-p Inv-loop μ-loop
-add-p c = search needs
+add-place : tie.Need-add-place Inv-loop μ-loop
+add-place c = search needs
 
 loop-less : tie.Need-loop-less Inv-loop μ-loop
 loop-less c = search needs
@@ -57,9 +58,9 @@ counts-spec =
     loop-holds
     count-at-requires
     narrow-requires
-    mul-x
-    array-write-x
-    add-p
+    mul-all
+    array-write-all
+    add-place
     loop-less
     loop-again
     returns)

@@ -13,10 +13,10 @@ use Rattle.pieces.proofs.counts.longests.Statement.{statement}
 use Rattle.pieces.proofs.counts.longests.Tie as tie
 
 abbrev Inv-loop : tie.InvT-loop
-Inv-loop n m c q x all₀ i₀ all i = (i ≤ 32) × (length all₀ ≡ 32) × (all ≡ filled i (longestAt n (held m c q) (phaseAt x)) all₀)
+Inv-loop tasks phases work cost counts all₀ i₀ all i = (i ≤ 32) × (length all₀ ≡ 32) × (all ≡ filled i (longestAt tasks (held phases work cost) (phaseAt counts)) all₀)
 
 abbrev μ-loop : tie.MeasureT-loop
-μ-loop n m c q x all₀ i₀ all i = 32 - i
+μ-loop tasks phases work cost counts all₀ i₀ all i = 32 - i
 
 loop-holds : tie.Need-loop-holds Inv-loop μ-loop
 loop-holds c = (omega arith, refl, filled-none _ _)

@@ -9,11 +9,11 @@ use Rattle.pieces.proofs.phase.brought.Statement.{statement}
 use Rattle.pieces.proofs.phase.brought.Tie as tie
 
 -- the product is bounded
-product : (c : tie.After-wide2) → c .before .before .args .x * c .wide2 .result ≤ workMost * costMost
+product : (c : tie.After-wide2) → c .before .before .args .count * c .wide2 .result ≤ workMost * costMost
 product c =
-    let x : c .before .before .args .x ≤ workMost = c .before .before .pre .2 in
-    let q : c .wide2 .result ≤ costMost = omega (arith, c .wide2 .ensures .0, c .before .before .pre .1) in
-    mul-le-mul x q
+    let count : c .before .before .args .count ≤ workMost = c .before .before .pre .2 in
+    let cost : c .wide2 .result ≤ costMost = omega (arith, c .wide2 .ensures .0, c .before .before .pre .1) in
+    mul-le-mul count cost
 
 wide-requires : tie.Need-wide-requires
 wide-requires c κs = search needs

@@ -9,7 +9,7 @@ use Rattle.pieces.proofs.phase.need.Statement.{statement}
 use Rattle.pieces.proofs.phase.need.Tie as tie
 
 -- the cost is below the margin
-roomy : (c : tie.Start) → c .args .q < c .args .margin
+roomy : (c : tie.Start) → c .args .cost < c .args .margin
 roomy c = ltb-true _ _ (c .pre .0)
 
 wide-requires : tie.Need-wide-requires

@@ -9,10 +9,10 @@ use Rattle.pieces.proofs.task.budget_under.Statement.{statement}
 use Rattle.pieces.proofs.task.budget_under.Tie as tie
 
 abbrev Inv-loop : tie.InvT-loop
-Inv-loop i margin m c q many sum₀ j₀ sum j = Adding (held m c q) margin i many j sum
+Inv-loop i margin phases work cost many sum₀ j₀ sum j = Adding (held phases work cost) margin i many j sum
 
 abbrev μ-loop : tie.MeasureT-loop
-μ-loop i margin m c q many sum₀ j₀ sum j = many - j
+μ-loop i margin phases work cost many sum₀ j₀ sum j = many - j
 
 mul-size : tie.Need-mul-size Inv-loop μ-loop
 mul-size c = search needs

@@ -10,10 +10,10 @@ use Rattle.pieces.proofs.task.longest_of.Statement.{statement}
 use Rattle.pieces.proofs.task.longest_of.Tie as tie
 
 abbrev Inv-loop : tie.InvT-loop
-Inv-loop i m c q x many top₀ j₀ top j = Rising (held m c q) (phaseAt x) i many j top
+Inv-loop i phases work cost counts many top₀ j₀ top j = Rising (held phases work cost) (phaseAt counts) i many j top
 
 abbrev μ-loop : tie.MeasureT-loop
-μ-loop i m c q x many top₀ j₀ top j = many - j
+μ-loop i phases work cost counts many top₀ j₀ top j = many - j
 
 mul-size : tie.Need-mul-size Inv-loop μ-loop
 mul-size c = search needs

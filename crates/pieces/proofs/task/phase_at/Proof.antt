@@ -19,7 +19,7 @@ element-copy-out-result : tie.Need-element-copy-out-result
 element-copy-out-result c = search needs
 
 returns : tie.Need-returns
-returns c = let a = c .before .args in sym (phase-at (a .a .now) (a .i) (a .j) (c .before .pre .1))
+returns c = let a = c .before .args in sym (phase-at (a .array .now) (a .i) (a .j) (c .before .pre .1))
 
 pub phase-at-spec : {M : Type 1} → statement M
 phase-at-spec =
