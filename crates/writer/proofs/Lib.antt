@@ -1,3 +1,4 @@
+-- What is proved beside the functions themselves.
 pub mod Outcomes
 pub mod Sizes
 pub mod Columns

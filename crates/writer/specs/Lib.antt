@@ -1,2 +1,3 @@
+-- The definitions of this crate, and the worked tables that hold them to their bytes.
 pub mod Written
 pub mod Worked
