@@ -12,7 +12,7 @@ use Rattle.model.specs.Tasks.{Tasks}
 use Rattle.promise.specs.History.{workIn}
 use Rattle.promise.specs.Promise.{FinishesIn, Meets}
 use Rattle.promise.specs.Rules.{Answer, State}
-use Rattle.promise.specs.laws.Deadlines.{Done, Within, deadline-met}
+use Rattle.promise.specs.laws.Deadlines.{Done, FinishesWithin, deadline-met}
 use Rattle.promise.specs.laws.Jobs.{ranAt}
 use Rattle.promise.specs.laws.Late.{Chooses, LateKept, LateRequest, MeetsFrom, ageless, lateAnswerAt}
 use Rattle.promise.specs.laws.Order.{finished-is, let-in-is, pass-flag, pass-ran, piece-in-order}
@@ -30,7 +30,7 @@ module _ (S : Tasks) (x : Choice) (ranged : (i : ℕ) → i < S .n → Ranged S 
   passes = passAt S x lag choose ask
 
   module _ (r i : ℕ) (l : i < S .n) (e : h r .letIn i ≡ true) where
-    abbrev met : Within (askAt S x lag choose ask) passes i (S .D i - ask r .age i) (phasesOf S .budget x i) r
+    abbrev met : FinishesWithin (askAt S x lag choose ask) passes i (S .D i - ask r .age i) (phasesOf S .budget x i) r
     met =
         deadline-met (terms S x lag) ρ (askAt S x lag choose ask) passes (viewsAt S x lag choose ask) (runs S x ranged lag choose chosen ask) never-late i l r
         (sym (let-in-is S x ranged lag choose chosen ask r i) ∙ e)

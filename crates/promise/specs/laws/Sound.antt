@@ -7,7 +7,7 @@ use mathlib.Core.Bool.{true, false, true≢false}
 use native.Mathlib.Decide.{ℕ-discrete}
 use native.Mathlib.Omega.{arith}
 use Rattle.finite.specs.laws.Tests.{by-cases}
-use Rattle.promise.specs.laws.View.{Admitted, Aged, Ask, Elapsed, GoesOn, Pass, Picked, Ranges, Run, Start, Started, Terms, Unchanged, Used, View, Views, Worked, goes-on, idles, rests, starts, works}
+use Rattle.promise.specs.laws.View.{Admitted, Aged, Ask, Elapsed, GoesOn, Pass, Picked, Ranges, ViewedRun, Start, Started, Terms, Unchanged, Used, View, Views, Worked, goes-on, idles, rests, starts, works}
 
 -- of the task whose piece runs
 pub record Running (τ : Terms) (s : View) (j : ℕ) : Type 0 where
@@ -211,7 +211,7 @@ module _ (τ : Terms) where
           }
 
 -- ---- every view of a run is sound
-module _ (τ : Terms) (ρ : Ranges τ) (ask : ℕ → Ask) (pass : ℕ → Pass) (v : Views) (run : Run τ ask pass v) where
+module _ (τ : Terms) (ρ : Ranges τ) (ask : ℕ → Ask) (pass : ℕ → Pass) (v : Views) (run : ViewedRun τ ask pass v) where
   entered-from : (t : ℕ) → Sound τ (v .before t) → Sound τ (v .entered t)
   entered-from t = admit-sound τ (v .before t) (v .entered t) (ask t) (run .admits t) ρ
 
