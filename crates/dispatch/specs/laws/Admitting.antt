@@ -23,7 +23,7 @@ abbrev pub admittedState : Dispatcher → ℕ → State
 admittedState d asked = admit (tasksIn d) (bit asked) (stateIn d)
 
 -- whom the scan over the arrays lets in is whom the rules let in
-pub scan-is : (d : Dispatcher) (asked m : ℕ) → m ≡ maskOf 32 (array.letsIn (d .tasks) (d .spacing) (d .since) (d .unfinished) asked) → m ≡ maskOf 32 (letsIn (tasksIn d) (stateIn d) (bit asked))
+pub scan-is : (d : Dispatcher) (asked m : ℕ) → m ≡ maskOf 32 (array.entersOf (d .tasks) (d .spacing) (d .since) (d .unfinished) asked) → m ≡ maskOf 32 (letsIn (tasksIn d) (stateIn d) (bit asked))
 unfolding letsIn
 scan-is d asked m e = e
 
