@@ -2,30 +2,29 @@
 -- Assumes nothing.
 use Prim.Native.Nat.{ℕ, _+_, _-_, _*_, _≤_, _<_}
 use mathlib.Core.Path.{_≡_, refl, ap, sym, _∙_}
-use mathlib.Core.List.{List}
+use mathlib.Core.List.{List, [], _∷_}
 use mathlib.Core.Bool.{Bool, true, false, _||_, true≢false}
 use native.Mathlib.Nat.{add-sub-cancel-left, sub-zero}
 use native.Mathlib.Omega.{arith}
 use lib.Dec.{ltb}
-use lib.ListN.{length, replicate}
+use lib.ListN.{length}
 use borrow.Author.Tests.{eq-eqb, ne-eqb, lt-ltb, le-ltb, ltb-false}
 use Rattle.finite.specs.If.{if_then_else_}
 use Rattle.groups.specs.declared.Number.{Number}
 use Rattle.groups.specs.declared.Number.the-variants.{Value, Ends, Malformed}
 use Rattle.groups.specs.Number.{numberAt}
-use Rattle.model.specs.Ranges.{costMost, phasesMost, spacingMost, tasksMost, workMost}
+use Rattle.model.specs.Arrays.{Arrays, emptyArrays, withCount}
+use Rattle.model.specs.Ranges.{FromTo, phaseNumbers, phasesMost, spacingMost, tasksMost}
 use Rattle.table.specs.declared.Table.{Table}
 use Rattle.table.specs.declared.ParseOutcome.the-variants.{Parsed, TurnedAway}
 use Rattle.table.specs.declared.Parsing.{Parsing}
 use Rattle.table.specs.declared.Reading.{Reading}
 use Rattle.table.specs.declared.ReadOutcome.the-variants.{TurnedAway as NotRead}
-use Rattle.table.specs.declared.items.Found.{Found}
-use Rattle.table.specs.declared.items.Found.the-variants.{Value as IsNumber, Away as NoNumber}
 use Rattle.table.specs.declared.items.NumberRead.{NumberRead}
 use Rattle.table.specs.declared.items.Step.{Step}
-use Rattle.table.specs.Parse.{Result, got, away, Parser, andThen, _>>=_, _>>_, done, tested, numberIn, each, phase, task, nothingBehind, numbers, table, empty, withPhase, withTask, parsedOf, limitOf, readingOf}
-use Rattle.table.specs.Steps.{arrays, phaseArrays, readTo, foundOf, passedOn, awayAt, allTasks, limitedBy, Reads, Leaves, Ranged, NumberFrom, PhasesFrom, EndFrom}
-use Rattle.table.specs.TaskModel.{tasksOf}
+use Rattle.table.specs.Parse.{Result, got, away, Parser, andThen, _>>=_, _>>_, done, tested, numberIn, numbersIn, each, phase, task, nothingBehind, numbers, table, empty, withPhase, withTask, parsedOf, limitOf, readingOf}
+use Rattle.table.specs.Steps.{readTo, awayAt, allTasks, limitedBy, Reads, Leaves, Ranged, NumberFrom, PhasesFrom, EndFrom}
+use Rattle.table.specs.TaskModel.{tableOf, tasksOf}
 use Rattle.table.specs.Valid.{InRange}
 use Rattle.table.proofs.Ranges.{limited-reading}
 use Rattle.table.proofs.Steps.{next, go-on, then-done}
@@ -33,92 +32,69 @@ use Rattle.table.proofs.Valid.{numbers-in-range}
 
 -- ---- a number
 
-module _ {at value place least most : ℕ} where
-  pub outside : {r : Found} → r ≡ NoNumber 4 at → (ltb value least || ltb most value) ≡ true → Ranged at value place least most r
-  outside n e = rw n (record { is = λ bytes. go (ltb value least) (ltb most value) e })
+module _ {at value place least most : ℕ} {r : NumberRead} where
+  pub outside : r ≡ awayAt 4 at → (ltb value least || ltb most value) ≡ true → Ranged at value place least most r
+  outside n e = rw n (record { is = λ bytes. go (ltb value least) (ltb most value) e; high = omega arith })
     where
-      go : (a b : Bool) → (a || b) ≡ true → NoNumber 4 at ≡ foundOf (if a then away 4 at else if b then away 4 at else got value place)
+      go : (a b : Bool) → (a || b) ≡ true → away 4 at ≡ (if a then away 4 at else if b then away 4 at else got value place)
       go true b e = refl
       go false true e = refl
       go false false e = absurd (true≢false (sym e))
 
-  pub inside : {r : Found} → r ≡ IsNumber value place → (ltb value least || ltb most value) ≡ false → Ranged at value place least most r
-  inside n e = rw n (record { is = λ bytes. go (ltb value least) (ltb most value) e })
+  pub inside : r ≡ record { reason = 0; place = place; value = value } → (ltb value least || ltb most value) ≡ false → Ranged at value place least most r
+  inside n e = rw n (record { is = λ bytes. go (ltb value least) (ltb most value) e .0; high = ltb-false most value (go (ltb value least) (ltb most value) e .1) })
     where
-      go : (a b : Bool) → (a || b) ≡ false → IsNumber value place ≡ foundOf (if a then away 4 at else if b then away 4 at else got value place)
+      go : (a b : Bool) → (a || b) ≡ false → (got value place ≡ (if a then away 4 at else if b then away 4 at else got value place)) × (b ≡ false)
       go true b e = absurd (true≢false e)
       go false true e = absurd (true≢false e)
-      go false false e = refl
-
--- what is found at a place, by what the number reader answers there
-module _ (bytes : List ℕ) (at least most : ℕ) (x : Number) (is : x ≡ numberAt bytes at) where
-  pub found-by : (y : Number) (r : Found) → x ≡ y → r ≡ foundOf (tested least most y bytes at) → r ≡ foundOf (numberIn least most bytes at)
-  unfolding numberIn
-  found-by y r e n = n ∙ ap (λ (z : Number). foundOf (tested least most z bytes at)) (sym e ∙ is)
-
-  pub found-ranged : (value place : ℕ) (r : Found) → x ≡ Value value place → Ranged at value place least most r → r ≡ foundOf (numberIn least most bytes at)
-  found-ranged value place r e n = found-by (Value value place) r e (n .is bytes)
-
--- a number that was found is at most its most, and no reason is 0
-abbrev Proper : ℕ → Result ℕ → Type 0
-Proper most (got v next) = v ≤ most
-Proper most (away reason place) = 1 ≤ reason
-
-tested-proper : (least most : ℕ) (x : Number) (bytes : List ℕ) (at : ℕ) → Proper most (tested least most x bytes at)
-tested-proper least most Ends bytes at = omega arith
-tested-proper least most Malformed bytes at = omega arith
-tested-proper least most (Value v next) bytes at = go (ltb v least) (ltb most v) refl
-  where
-    go : (a b : Bool) → ltb most v ≡ b → Proper most (if a then away 4 at else if b then away 4 at else got v next)
-    go true b e = omega arith
-    go false true e = omega arith
-    go false false e = ltb-false most v e
-
-number-proper : (least most : ℕ) (bytes : List ℕ) (at : ℕ) → Proper most (numberIn least most bytes at)
-unfolding numberIn
-number-proper least most bytes at = tested-proper least most (numberAt bytes at) bytes at
-
--- what was found is what reading gives
-taken : (most v next : ℕ) (y : Result ℕ) → Proper most y → foundOf y ≡ IsNumber v next → (y ≡ got v next) × (v ≤ most)
-taken most v next (got a b) l e =
-    let first : a ≡ v = cc in
-    let second : b ≡ next = cc in
-    (cc, omega arith)
-taken most v next (away r p) l e = let z : _≡_ {A = ℕ} 0 1 = cc in absurd (omega arith)
-
-turned : (most reason place : ℕ) (y : Result ℕ) → Proper most y → foundOf y ≡ NoNumber reason place → (y ≡ away reason place) × (1 ≤ reason)
-turned most reason place (got a b) l e = let z : _≡_ {A = ℕ} 0 1 = cc in absurd (omega arith)
-turned most reason place (away r p) l e =
-    let first : r ≡ reason = cc in
-    (cc, omega arith)
+      go false false e = (refl, refl)
 
 module _ {bytes : List ℕ} {reason place least most : ℕ} {r : NumberRead} where
+  -- turned away before
   pub number-away : (reason ≡ 0 → ⊥) → r ≡ awayAt reason place → NumberFrom bytes reason place least most r
   number-away some is = rw is (record { reads = record { is = rw (ne-eqb reason 0 some) }; high = omega arith })
 
--- a number is due where the reason is 0
-module _ (bytes : List ℕ) (reason place least most : ℕ) (z : reason ≡ 0) (found : Found) (is : found ≡ foundOf (numberIn least most bytes place)) where
-  pub number-found : (v next : ℕ) (r : NumberRead) → found ≡ IsNumber v next → r ≡ record { reason = 0; place = next; value = v } → NumberFrom bytes reason place least most r
-  number-found v next r e n =
-      let y = taken most v next (numberIn least most bytes place) (number-proper least most bytes place) (sym is ∙ e) in
-      rw n (record { reads = record { is = rw (eq-eqb reason 0 z) (y .0) }; high = y .1 })
+-- a number is due where the reason is 0: what the number reader answers there, tested
+module _ (bytes : List ℕ) (reason place least most : ℕ) (z : reason ≡ 0) (x : Number) (is : x ≡ numberAt bytes place) (r : NumberRead) where
+  number-by : (y : Number) → x ≡ y → readTo (r .reason) (r .place) (r .value) ≡ tested least most y bytes place → r .value ≤ most
+      → NumberFrom bytes reason place least most r
+  unfolding numberIn
+  number-by y e n high = record {
+    reads = record { is = rw (eq-eqb reason 0 z) (ap (λ (z : Number). tested least most z bytes place) (sym is ∙ e) ∙ sym n) };
+    high = high;
+  }
 
-  pub number-passed : (why at : ℕ) (r : NumberRead) → found ≡ NoNumber why at → r ≡ passedOn found → NumberFrom bytes reason place least most r
-  number-passed why at r e n =
-      let y = turned most why at (numberIn least most bytes place) (number-proper least most bytes place) (sym is ∙ e) in
-      let some : why ≡ 0 → ⊥ = λ o. omega (arith, y .1) in
-      let is-away : r ≡ awayAt why at = n ∙ ap passedOn e in
-      rw is-away (record { reads = record { is = rw (eq-eqb reason 0 z, ne-eqb why 0 some) (y .0) }; high = omega arith })
+  pub number-ranged : (value next : ℕ) → x ≡ Value value next → Ranged place value next least most r → NumberFrom bytes reason place least most r
+  number-ranged value next e n = number-by (Value value next) e (n .is bytes) (n .high)
+
+  pub number-ends : x ≡ Ends → r ≡ awayAt 2 (length bytes) → NumberFrom bytes reason place least most r
+  number-ends e n = number-by Ends e (rw n) (rw n (omega arith))
+
+  pub number-malformed : x ≡ Malformed → r ≡ awayAt 3 place → NumberFrom bytes reason place least most r
+  number-malformed e n = number-by Malformed e (rw n) (rw n (omega arith))
 
 -- ---- a phase, a task
 
+-- numbers one behind the other, each within its range, from a step up to a step
+pub record NumbersRead (bytes : List ℕ) (reason place : ℕ) (ranges : List FromTo) (reason′ place′ : ℕ) (ns : List ℕ) : Type 0 where
+  pub reads : Reads bytes reason place (numbersIn ranges) reason′ place′ ns
+
 module _ {bytes : List ℕ} {reason place : ℕ} where
-  pub phase-by : {rc pc rq pq work cost : ℕ} (k : ℕ) (t : Table)
-      → Reads bytes reason place (numberIn 1 workMost) rc pc work
-      → Reads bytes rc pc (numberIn 0 costMost) rq pq cost
-      → Reads bytes reason place (phase k t) rq pq (withPhase k work cost t)
+  pub no-number : NumbersRead bytes reason place [] reason place []
+  unfolding numbersIn
+  no-number = record { reads = record { is = refl } }
+
+  pub one-number : {range : FromTo} {ranges : List FromTo} {rn pn rs ps n : ℕ} {ns : List ℕ}
+      → Reads bytes reason place (numberIn (range .least) (range .most)) rn pn n
+      → NumbersRead bytes rn pn ranges rs ps ns
+      → NumbersRead bytes reason place (range ∷ ranges) rs ps (n ∷ ns)
+  unfolding numbersIn
+  one-number f o = record { reads = then-done _ (go-on (next _ _ f) (next _ _ (o .reads))) }
+
+  pub phase-by : {rp pp : ℕ} {ns : List ℕ} (k : ℕ) (t : Table) → NumbersRead bytes reason place phaseNumbers rp pp ns
+      → Reads bytes reason place (phase k t) rp pp (withPhase k ns t)
   unfolding phase
-  phase-by k t c q = then-done _ (go-on (next _ _ c) (next _ _ q))
+  phase-by k t n = then-done _ (next _ _ (n .reads))
 
   pub head-by : {rt pt rd pd rm pm spacing deadline count : ℕ} (i : ℕ) (t : Table)
       → Reads bytes reason place (numberIn 1 spacingMost) rt pt spacing
@@ -128,11 +104,11 @@ module _ {bytes : List ℕ} {reason place : ℕ} where
   unfolding task
   head-by i t T D m = go-on (next _ _ T) (go-on (next _ _ D) (next _ _ m))
 
--- so many phases from a place on, put into a table whose arrays were lent
-pub phases-of : {bytes : List ℕ} {reason place : ℕ} (first count : ℕ) (t : Table) {after : Table → Table} {r : Step}
-    → PhasesFrom bytes reason place first (first + count) (phaseArrays (t .work) (t .cost)) after r
-    → Reads bytes reason place (each phase count first t) (r .reason) (r .place) (after t)
-phases-of first count t f = rw add-sub-cancel-left at (f .reads t)
+-- so many phases from a place on, put into arrays that were lent
+pub phases-of : {bytes : List ℕ} {reason place : ℕ} (first count : ℕ) (a : Arrays) {before after : Arrays → Arrays} {r : Step}
+    → PhasesFrom bytes reason place first (first + count) before after r → before a ≡ a
+    → Reads bytes reason place (each phase count first (tableOf a)) (r .reason) (r .place) (tableOf (after a))
+phases-of first count a f own = rw (add-sub-cancel-left, own) at (f .reads a)
 
 -- ---- the end, and the whole
 
@@ -147,8 +123,9 @@ module _ {bytes : List ℕ} {reason place : ℕ} where
   end-away some = record { reads = record { is = rw (ne-eqb reason 0 some) } }
 
 -- the number of tasks was read: the tasks are left
-pub tasks-by : {bytes : List ℕ} {reason place count : ℕ} (before : ℕ → Table) → Reads bytes 0 0 (numberIn 1 tasksMost) reason place count
-    → Leaves bytes 0 0 (allTasks before) reason place (each task (count - 0) 0 (before count))
+pub tasks-by : {bytes : List ℕ} {reason place count : ℕ} (before : Arrays) → Reads bytes 0 0 (numberIn 1 tasksMost) reason place count
+    → Leaves bytes 0 0 (allTasks before) reason place (each task (count - 0) 0 (tableOf (withCount count before)))
+unfolding allTasks
 tasks-by before n = rw sub-zero (next _ _ n)
 
 assoc : {A B C : Type 0} (x : Result A) (f : A → Parser B) (g : B → Parser C) (s : List ℕ) → andThen (andThen x f s) g s ≡ andThen x (λ a. _>>=_ (f a) g) s
@@ -156,10 +133,10 @@ assoc (got a at) f g s = refl
 assoc (away reason place) f g s = refl
 
 pub numbers-by : {bytes : List ℕ} {rt pt re pe : ℕ} {t : Table}
-    → Reads bytes 0 0 (allTasks (arrays (replicate 32 0) (replicate 32 0) (replicate 32 0) (replicate 256 0) (replicate 256 0))) rt pt t
+    → Reads bytes 0 0 (allTasks emptyArrays) rt pt t
     → Reads bytes rt pt nothingBehind re pe tt
     → readTo re pe t ≡ numbers bytes 0
-unfolding numbers empty
+unfolding numbers empty allTasks
 numbers-by {bytes} {t = t} ts e =
     sym (then-done t (go-on (next bytes (λ u. _>>_ nothingBehind (done u)) ts) (next bytes (λ u. done t) e)) .is)
     ∙ assoc (numberIn 1 tasksMost bytes 0) _ (λ u. _>>_ nothingBehind (done u)) bytes

@@ -24,15 +24,15 @@ pub bound : {A B : Type 0} (x : Result A) (f : A → Parser B) (s : List ℕ) {b
 bound (got a mid) f s e = record { value = a; mid = mid; first = refl; second = e }
 bound (away reason place) f s e = absurd (never e)
 
-pub same-table : {t t′ : Table} {m n : ℕ} → got t m ≡ got t′ n → t ≡ t′
-same-table e = cc
+pub same-value : {A : Type 0} {a b : A} {m n : ℕ} → got a m ≡ got b n → a ≡ b
+same-value e = cc
 
 -- what holds before the first part and is kept by each part holds after the last
 pub keeps : (part : ℕ → Table → Parser Table) (s : List ℕ) (last : ℕ) (P : ℕ → Table → Type 0)
     → ((k : ℕ) (t : Table) (at : ℕ) (t′ : Table) (next : ℕ) → k < last → P k t → part k t s at ≡ got t′ next → P (k + 1) t′)
     → (left k : ℕ) (t : Table) (at : ℕ) (t′ : Table) (next : ℕ) → k + left ≡ last → P k t → each part left k t s at ≡ got t′ next → P last t′
 unfolding each
-keeps part s last P step zero k t at t′ next h p e = subst₂ P (sym (add-zero k) ∙ h) (same-table e) p
+keeps part s last P step zero k t at t′ next h p e = subst₂ P (sym (add-zero k) ∙ h) (same-value e) p
 keeps part s last P step (suc left) k t at t′ next h p e =
     let b = bound (part k t s at) (λ (u : Table). each part left (k + 1) u) s e in
     keeps part s last P step left (k + 1) (b .value) (b .mid) t′ next (omega arith) (step k t at (b .value) (b .mid) (omega arith) p (b .first)) (b .second)

@@ -1,25 +1,26 @@
--- The first 2,405 bytes decide how a longer byte string is read.
+-- The first bytes decide how a longer byte string is read: 2,405 of them (specs/Sizes: `deciding`). Assumes nothing.
 use Prim.Native.Nat.{ℕ, zero, suc, _+_, _-_, _*_, _^_, _≤_, _<_}
 use mathlib.Core.Path.{_≡_, refl, sym, subst}
-use mathlib.Core.List.{List}
+use mathlib.Core.List.{List, [], _∷_}
 use mathlib.Core.Logic.{_⊎_, inl, inr}
 use mathlib.Core.Bool.{Bool, true, false, _&&_, true≢false}
 use native.Mathlib.Omega.{arith}
 use native.Mathlib.Nat.{le-refl, pow-suc, pow-le-pow-right}
-use borrow.Author.Tests.{lt-leb, lt-ltb, eqb-false, ltb-false}
+use borrow.Author.Tests.{lt-leb, lt-ltb, eqb-false, ltb-false, ltb-true}
 use lib.Dec.{leb, ltb, eqb, lit<}
 use lib.ListN.{length, getD, take}
 use lib.Seq.{length-take-le, getD-take}
-use Rattle.finite.specs.laws.Tests.{le-or-lt}
+use Rattle.finite.specs.laws.Tests.{and-both, le-or-lt}
 use Rattle.finite.specs.If.{if_then_else_}
-use Rattle.model.specs.Ranges.{costMost, horizonMost, jobsMost, phasesMost, spacingMost, tasksMost, workMost}
+use Rattle.model.specs.Ranges.{FromTo, horizonMost, jobsMost, phaseNumbers, phasesMost, spacingMost, tasksMost}
 use Rattle.groups.specs.declared.Number.{Number}
 use Rattle.groups.specs.declared.Number.the-variants.{Value, Ends, Malformed}
 use Rattle.groups.specs.Number.{inFront, groups, numberAt}
 use Rattle.model.specs.Tasks.{Tasks}
 use Rattle.model.specs.TestPoints.{horizonOf}
 use Rattle.table.specs.declared.Table.{Table}
-use Rattle.table.specs.Parse.{Result, got, away, Parser, andThen, tested, numberIn, each, phase, task, numbers, limits, table, nothingBehind, horizonInRange, empty, withCount, withTask, withPhase}
+use Rattle.table.specs.Parse.{Result, got, away, Parser, andThen, tested, numberIn, numbersIn, each, phase, task, numbers, limits, table, nothingBehind, horizonInRange, empty, withCount, withTask, withPhase}
+use Rattle.table.specs.Sizes.{deciding, numberLong, phaseLong, tableLong, taskLong}
 use Rattle.table.specs.TaskModel.{tasksOf, jobsWithin}
 use Rattle.table.proofs.Steps.{in-range}
 
@@ -55,18 +56,10 @@ shape (suc left) longer s p h = rw (lt-leb (length s) p (omega arith)) (go (leb 
     go true ih = front longer (getD s p 0 - 128) p (groups left true s (p + 1)) ih
     go false ih = last-byte longer p (getD s p 0) (eqb (getD s p 0) 0) refl
 
--- how many bytes a phase has at most, a task, a table: 2,401; and how many decide, since eight bytes of the last number may be looked at
-abbrev phaseLong : ℕ
-phaseLong = 4 + 4
-
-abbrev taskLong : ℕ
-taskLong = 5 + 5 + 1 + phasesMost * phaseLong
-
-abbrev tableLong : ℕ
-tableLong = 1 + tasksMost * taskLong
-
-abbrev deciding : ℕ
-deciding = tableLong + 4
+-- ranges of numbers below 128 ^ 4
+short : List FromTo → Bool
+short [] = true
+short (range ∷ ranges) = ltb (range .most) (128 ^ numberLong) && short ranges
 
 -- so a number below 128 ^ (j + 1) has at most j + 1 bytes
 few-bytes : (j v p next : ℕ) (longer : Bool) → v < 128 ^ suc j → Shape longer p (Value v next) → next ≤ p + suc j
@@ -150,12 +143,26 @@ module _ (size : ℕ) (s r : List ℕ) (pre : Prefix size s r) where
       then-alike (p k t s at) (p k t r at) _ (at + part) (at + part * suc left) (one k t at (omega arith))
       (λ t′ next e l. further (omega arith) (each-alike part p one left (k + 1) t′ next (omega arith)))
 
+  -- numbers of at most four bytes each, one behind the other
+  in-order-alike : (ranges : List FromTo) → short ranges ≡ true → (at : ℕ) → at + numberLong * length ranges + 4 ≤ size
+      → Alike (numbersIn ranges s at) (numbersIn ranges r at) (at + numberLong * length ranges)
+  unfolding numbersIn short
+  in-order-alike [] ok at h = done-alike [] at (at + numberLong * 0) (omega arith)
+  in-order-alike (range ∷ ranges) ok at h =
+      let least = range .least in
+      let most = range .most in
+      let far = at + numberLong * length (range ∷ ranges) in
+      let (this, others) = and-both (ltb most (128 ^ numberLong)) (short ranges) ok in
+      let small = ltb-true most (128 ^ numberLong) this in
+      then-alike (numberIn least most s at) (numberIn least most r at) _ (at + numberLong) far (number-alike 3 least most at small (omega arith))
+      (λ n a e l. then-alike (numbersIn ranges s a) (numbersIn ranges r a) _ (a + numberLong * length ranges) far (in-order-alike ranges others a (omega arith))
+      (λ ns b f m. done-alike (n ∷ ns) b far (omega arith)))
+
   phase-alike : (k : ℕ) (t : Table) (at : ℕ) → at + phaseLong + 4 ≤ size → Alike (phase k t s at) (phase k t r at) (at + phaseLong)
-  unfolding phase
+  unfolding phase short
   phase-alike k t at h =
-      then-alike (numberIn 1 workMost s at) (numberIn 1 workMost r at) _ (at + 4) (at + phaseLong) (number-alike 3 1 workMost at (omega arith) (omega arith))
-      (λ work a e l. then-alike (numberIn 0 costMost s a) (numberIn 0 costMost r a) _ (a + 4) (at + phaseLong) (number-alike 3 0 costMost a (omega arith) (omega arith))
-      (λ cost b f m. done-alike (withPhase k work cost t) b (at + phaseLong) (omega arith)))
+      then-alike (numbersIn phaseNumbers s at) (numbersIn phaseNumbers r at) _ (at + phaseLong) (at + phaseLong) (in-order-alike phaseNumbers refl at h)
+      (λ ns a e l. done-alike (withPhase k ns t) a (at + phaseLong) l)
 
   task-alike : (i : ℕ) (t : Table) (at : ℕ) → at + taskLong + 4 ≤ size → Alike (task i t s at) (task i t r at) (at + taskLong)
   unfolding task
@@ -171,7 +178,7 @@ module _ (size : ℕ) (s r : List ℕ) (pre : Prefix size s r) where
   pub count-alike : deciding ≤ size → Alike (numberIn 1 tasksMost s 0) (numberIn 1 tasksMost r 0) 1
   count-alike h = number-alike 0 1 tasksMost 0 (omega arith) (omega arith)
 
-  pub tasks-alike : (count at : ℕ) → deciding ≤ size → at ≤ 1 → count ≤ 32
+  pub tasks-alike : (count at : ℕ) → deciding ≤ size → at ≤ 1 → count ≤ tasksMost
       → Alike (each task count 0 (withCount count empty) s at) (each task count 0 (withCount count empty) r at) tableLong
   tasks-alike count at h a c = further (omega arith) (each-alike taskLong task task-alike count 0 (withCount count empty) at (omega arith))
 
@@ -201,9 +208,9 @@ module _ (size : ℕ) (s r : List ℕ) (pre : Prefix size s r) where
       (λ t a e l. then-alike (limits (tasksOf t) s a) (limits (tasksOf t) r a) _ a 0 (limits-alike (tasksOf t) a) (λ u b f m. done-alike t b 0 (omega arith)))
       .same
 
--- What is read of a string of at least 2,405 bytes, the reason and the place too, is what is read of any prefix of it with at least 2,405 bytes.
--- Fewer do not decide: the last number of a table may begin at 2,397, and eight bytes of it may be looked at.
-pub table-prefix : (s : List ℕ) (n : ℕ) → 2405 ≤ n → n ≤ length s → table (take n s) 0 ≡ table s 0
+-- What is read of a string of at least `deciding` bytes, the reason and the place too, is what is read of any prefix of it with at least so many.
+-- Fewer do not decide: the last number of a table may begin four bytes before the end of the longest, and eight bytes of it may be looked at.
+pub table-prefix : (s : List ℕ) (n : ℕ) → deciding ≤ n → n ≤ length s → table (take n s) 0 ≡ table s 0
 table-prefix s n h l = table-alike n (take n s) s (record {
   first-long = omega (arith, length-take-le n s l);
   second-long = l;

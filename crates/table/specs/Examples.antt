@@ -6,9 +6,11 @@ use mathlib.Core.Path.{_≡_, refl}
 use lib.ListN.{getD}
 use Rattle.finite.specs.Finite.{sumTo}
 use Rattle.groups.specs.Number.{groups}
+use Rattle.model.specs.Arrays.{emptyArrays}
 use Rattle.model.specs.TestPoints.{gcdIn, gcd, lcm, lcmTo, horizonOf}
 use Rattle.table.specs.declared.Table.{Table}
-use Rattle.table.specs.Parse.{Result, got, away, numberIn, each, phase, task, numbers, table, empty}
+use Rattle.table.specs.Parse.{Result, got, away, numberIn, numbersIn, each, phase, task, numbers, table, empty}
+use Rattle.table.specs.Sizes.{deciding, tableLong}
 use Rattle.table.specs.TaskModel.{jobsWithin}
 
 -- what is looked at: the place behind the table and the first two tasks' numbers, or the reason and the place
@@ -75,5 +77,9 @@ abbrev pub examples : List Example
 examples = example-1 ∷ example-2 ∷ example-3 ∷ example-4 ∷ example-5 ∷ example-6 ∷ example-7 ∷ example-8 ∷ example-9 ∷ example-10 ∷ []
 
 pub read-as-printed : map (λ (e : Example). seen (table (e .bytes) 0)) examples ≡ map (λ (e : Example). e .seen-is) examples
-unfolding table numbers task phase each numberIn groups empty horizonOf lcmTo lcm gcd gcdIn jobsWithin sumTo
+unfolding table numbers task phase each numbersIn numberIn groups empty emptyArrays horizonOf lcmTo lcm gcd gcdIn jobsWithin sumTo
 read-as-printed = refl
+
+-- A table has at most 2,401 bytes, and the first 2,405 decide.
+pub sizes-as-printed : (tableLong ≡ 2401) × (deciding ≡ 2405)
+sizes-as-printed = (refl, refl)

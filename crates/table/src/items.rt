@@ -1,12 +1,12 @@
-// The items of a table in bytes, read from left to right: a number, the numbers of a phase, the numbers of a task, and the loops that store them.
+// The items of a table in bytes, read from left to right: a number, the numbers of a task, and the loops that store them and those of the phases.
 // A step is a reason and a place: reason 0 and the place behind what was read, or the reason for turning the table away and its place. Every
 // function goes on from a step; from one that turned the table away it gives that back, so that only `number` and `end` ask.
 use crate::Table;
 use groups::Number;
 ghost use mathlib.Core.Path.{_≡_};
 ghost use Prim.Native.Nat.{_≤_};
-ghost use Rattle.table.specs.Parse.{numberIn};
-ghost use Rattle.table.specs.Steps.{arrays, phaseArrays, awayAt, EndFrom, foundOf, HeadFrom, NumberFrom, passedOn, Ranged, PhaseFrom, PhasesFrom, TasksFrom};
+ghost use Rattle.model.specs.Arrays.{arraysAs, withPhases};
+ghost use Rattle.table.specs.Steps.{awayAt, EndFrom, HeadFrom, NumberFrom, Ranged, PhasesFrom, TasksFrom};
 
 // Where reading stands.
 pub struct Step {
@@ -19,14 +19,6 @@ pub struct NumberRead {
     pub reason: u8,
     pub place: usize,
     pub value: u64,
-}
-
-// The step behind the numbers of a phase, and the numbers.
-pub struct PhaseRead {
-    pub reason: u8,
-    pub place: usize,
-    pub work: u32,
-    pub cost: u32,
 }
 
 // The step behind the numbers of a task, where its phases follow, and the numbers.
@@ -45,43 +37,6 @@ pub struct TasksRead {
     pub count: usize,
 }
 
-// What is found where a number is due: the number and the place behind it, or the reason and the place for turning the table away.
-enum Found {
-    Value(u64, usize),
-    Away(u8, usize),
-}
-
-// A number that stands at `at`, tested for its range: outside it, reason 4.
-fn ranged(at: usize, value: u64, place: usize, least: u64, most: u64) -> Found
-    ensures { λ r. ⌜ Ranged at value place least most r ⌝ }
-{
-    if (value < least) | (most < value) {
-        return Found::Away(4, at);
-    }
-    Found::Value(value, place)
-}
-
-// What is found at `at`, where a number from `least` to `most` is due.
-fn number_at(bytes: &[u8], at: usize, least: u64, most: u64) -> Found
-    ensures { λ r. ⌜ r ≡ foundOf (numberIn least most (now (bytes .entry)) at) ⌝ }
-{
-    match groups::read(bytes, at) {
-        Number::Value(value, place) => ranged(at, value, place, least, most),
-        Number::Ends => Found::Away(2, bytes.len()),
-        Number::Malformed => Found::Away(3, at),
-    }
-}
-
-// What turned the table away, passed on as a step. (A number is never passed on.)
-fn passed_on(found: Found) -> NumberRead
-    ensures { λ r. ⌜ r ≡ passedOn found ⌝ }
-{
-    match found {
-        Found::Away(reason, place) => away(reason, place),
-        Found::Value(_, place) => away(0, place),
-    }
-}
-
 // No number: the table is turned away.
 fn away(reason: u8, place: usize) -> NumberRead
     ensures { λ r. ⌜ r ≡ awayAt reason place ⌝ }
@@ -93,41 +48,31 @@ fn away(reason: u8, place: usize) -> NumberRead
     }
 }
 
-// The number that is due at a step.
+// A number that stands at `at`, tested for its range: outside it, reason 4.
+fn ranged(at: usize, value: u64, place: usize, least: u64, most: u64) -> NumberRead
+    ensures { λ r. ⌜ Ranged at value place least most r ⌝ }
+{
+    if (value < least) | (most < value) {
+        return away(4, at);
+    }
+    NumberRead {
+        reason: 0,
+        place,
+        value,
+    }
+}
+
+// The number from `least` to `most` that is due at a step.
 fn number(bytes: &[u8], reason: u8, place: usize, least: u64, most: u64) -> NumberRead
     ensures { λ r. ⌜ NumberFrom (now (bytes .entry)) reason place least most r ⌝ }
 {
     if reason != 0 {
         return away(reason, place);
     }
-    let found = number_at(bytes, place, least, most);
-    let Found::Value(value, next) = found else {
-        return passed_on(found);
-    };
-    NumberRead {
-        reason: 0,
-        place: next,
-        value,
-    }
-}
-
-// The numbers of a phase: c, q.
-fn phase(bytes: &[u8], reason: u8, place: usize) -> PhaseRead
-    ensures { λ r. ⌜ PhaseFrom (now (bytes .entry)) reason place r ⌝ }
-{
-    let work = number(bytes, reason, place, Table::WORK_LEAST, Table::WORK_MOST);
-    let cost = number(
-        bytes,
-        work.reason,
-        work.place,
-        Table::COST_LEAST,
-        Table::COST_MOST,
-    );
-    PhaseRead {
-        reason: cost.reason,
-        place: cost.place,
-        work: work.value as u32,
-        cost: cost.value as u32,
+    match groups::read(bytes, place) {
+        Number::Value(value, next) => ranged(place, value, next, least, most),
+        Number::Ends => away(2, bytes.len()),
+        Number::Malformed => away(3, place),
     }
 }
 
@@ -177,18 +122,31 @@ fn phases(
 ) -> Step
     requires { ⌜ last ≤ 256 ⌝ }
     ensures { λ r. ⌜ PhasesFrom (now (bytes .entry)) reason place first last
-        (phaseArrays (now (works .entry)) (now (costs .entry)))
-        (phaseArrays (now (works .exit)) (now (costs .exit))) r ⌝ }
+        (withPhases (now (works .entry)) (now (costs .entry)))
+        (withPhases (now (works .exit)) (now (costs .exit))) r ⌝ }
 {
     let mut step = Step { reason, place };
     let mut k = first;
     while k < last {
-        let p = phase(bytes, step.reason, step.place);
-        works[k] = p.work;
-        costs[k] = p.cost;
+        let c = number(
+            bytes,
+            step.reason,
+            step.place,
+            Table::WORK_LEAST,
+            Table::WORK_MOST,
+        );
+        let q = number(
+            bytes,
+            c.reason,
+            c.place,
+            Table::COST_LEAST,
+            Table::COST_MOST,
+        );
+        works[k] = c.value as u32;
+        costs[k] = q.value as u32;
         step = Step {
-            reason: p.reason,
-            place: p.place,
+            reason: q.reason,
+            place: q.place,
         };
         k = k + 1;
     }
@@ -205,35 +163,28 @@ pub fn tasks(
     costs: &mut [u32; 256],
 ) -> TasksRead
     ensures { λ r. ⌜ TasksFrom (now (bytes .entry))
-        (arrays (now (spacings .entry)) (now (deadlines .entry)) (now (sizes .entry)) (now (works .entry)) (now (costs .entry)))
-        (arrays (now (spacings .exit)) (now (deadlines .exit)) (now (sizes .exit)) (now (works .exit)) (now (costs .exit))) r ⌝ }
+        (arraysAs 0 (now (spacings .entry)) (now (deadlines .entry)) (now (sizes .entry)) (now (works .entry)) (now (costs .entry)))
+        (arraysAs 0 (now (spacings .exit)) (now (deadlines .exit)) (now (sizes .exit)) (now (works .exit)) (now (costs .exit))) r ⌝ }
 {
     let n = number(bytes, 0, 0, Table::TASKS_LEAST, Table::TASKS_MOST);
     let count = n.value as usize;
-    let mut reason = n.reason;
-    let mut place = n.place;
+    let mut step = Step {
+        reason: n.reason,
+        place: n.place,
+    };
     let mut i: usize = 0;
     while i < count {
-        if reason != 0 {
-            return TasksRead {
-                reason,
-                place,
-                count,
-            };
-        }
-        let h = head(bytes, reason, place);
+        let h = head(bytes, step.reason, step.place);
         spacings[i] = h.spacing;
         deadlines[i] = h.deadline;
         sizes[i] = h.phases;
         let last = 8 * i + h.phases as usize;
-        let s = phases(bytes, h.reason, h.place, 8 * i, last, works, costs);
-        reason = s.reason;
-        place = s.place;
+        step = phases(bytes, h.reason, h.place, 8 * i, last, works, costs);
         i = i + 1;
     }
     TasksRead {
-        reason,
-        place,
+        reason: step.reason,
+        place: step.place,
         count,
     }
 }

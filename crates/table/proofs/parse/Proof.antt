@@ -2,6 +2,7 @@
 -- Assumes nothing.
 use mathlib.Core.Path.{ap, _∙_}
 use borrow.Author.Needs.{needs}
+use Rattle.model.specs.Arrays.{emptyArrays}
 use Rattle.table.specs.Parse.{parsedOf}
 use Rattle.table.proofs.ItemLaws.{numbers-by}
 use Rattle.table.proofs.parse.Statement.{statement}
@@ -17,6 +18,7 @@ parsed-requires : tie.Need-parsed-requires
 parsed-requires c κs = search needs
 
 returns : tie.Need-returns
+unfolding emptyArrays
 returns c = let e = c .before in c .parsed .ensures ∙ ap parsedOf (numbers-by (e .before .tasks .ensures .reads) (e .end .ensures .reads))
 
 pub parse-spec : {M : Type 1} → statement M

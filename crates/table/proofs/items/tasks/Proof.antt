@@ -1,29 +1,29 @@
 -- `tasks` meets its contract. The invariant: to read all the tasks is to read those that are left. Assumes nothing.
 use Prim.Native.Nat.{_-_, _≤_}
+use mathlib.Core.Path.{refl}
 use borrow.Author.Needs.{needs}
+use Rattle.model.specs.Arrays.{arraysAs}
 use Rattle.table.specs.Parse.{each, task}
-use Rattle.table.specs.Steps.{allTasks, arrays, Leaves}
+use Rattle.table.specs.Steps.{allTasks, Leaves}
+use Rattle.table.specs.TaskModel.{tableOf}
 use Rattle.table.proofs.ItemLaws.{phases-of, tasks-by}
-use Rattle.table.proofs.Steps.{go-on, and-reads, stays, again, finish}
+use Rattle.table.proofs.Steps.{go-on, and-reads, again, finish}
 use Rattle.table.proofs.items.tasks.Statement.{statement}
 use Rattle.table.proofs.items.tasks.Tie as tie
 
 abbrev Inv-loop : tie.InvT-loop
-Inv-loop bytes spacings₀ deadlines₀ sizes₀ works₀ costs₀ count reason₀ place₀ i₀ spacings deadlines sizes works costs reason place i =
-    (count ≤ 32) × Leaves bytes 0 0 (allTasks (arrays spacings₀ deadlines₀ sizes₀ works₀ costs₀)) reason place
-    (each task (count - i) i (arrays spacings deadlines sizes works costs count))
+Inv-loop bytes spacings₀ deadlines₀ sizes₀ works₀ costs₀ count step₀ i₀ spacings deadlines sizes works costs step i =
+    (count ≤ 32) × Leaves bytes 0 0 (allTasks (arraysAs 0 spacings₀ deadlines₀ sizes₀ works₀ costs₀)) (step .reason) (step .place)
+    (each task (count - i) i (tableOf (arraysAs count spacings deadlines sizes works costs)))
 
 abbrev μ-loop : tie.MeasureT-loop
-μ-loop bytes spacings₀ deadlines₀ sizes₀ works₀ costs₀ count reason₀ place₀ i₀ spacings deadlines sizes works costs reason place i = count - i
+μ-loop bytes spacings₀ deadlines₀ sizes₀ works₀ costs₀ count step₀ i₀ spacings deadlines sizes works costs step i = count - i
 
 number-requires : tie.Need-number-requires Inv-loop μ-loop
 number-requires c κs = search needs
 
 loop-holds : tie.Need-loop-holds Inv-loop μ-loop
 loop-holds c = (search needs, tasks-by _ (c .number .ensures .reads))
-
-returns : tie.Need-returns Inv-loop μ-loop
-returns c = record { reads = and-reads (c .before .before .loop .inv .1) (stays (c .if1 .taken)) }
 
 head-requires : tie.Need-head-requires Inv-loop μ-loop
 head-requires c κs = search needs
@@ -70,19 +70,18 @@ loop-less c = search needs
 loop-again : tie.Need-loop-again Inv-loop μ-loop
 loop-again c =
     let h = c .before .before .before .before in
-    let t = h .before .before in
-    let l = t .before .loop in (
-      l .inv .0,
-      go-on (l .inv .1)
-          (again task _ _ _ (t .loop-test .taken) (and-reads (h .head .ensures .leaves _ _) (phases-of _ _ _ (c .phases .ensures)))),
+    let l = h .before in (
+      l .before .loop .inv .0,
+      go-on (l .before .loop .inv .1)
+          (again task _ _ _ (l .loop-test .taken) (and-reads (h .head .ensures .leaves _ _) (phases-of _ _ _ (c .phases .ensures) refl))),
     )
 
-returns-2 : tie.Need-returns-2 Inv-loop μ-loop
-returns-2 c = record { reads = and-reads (c .before .loop .inv .1) (finish task _ _ _ (c .loop-test .left)) }
+returns : tie.Need-returns Inv-loop μ-loop
+returns c = record { reads = and-reads (c .before .loop .inv .1) (finish task _ _ _ (c .loop-test .left)) }
 
 pub tasks-spec : {M : Type 1} → statement M
 tasks-spec =
     tie.close
-    (tie.spec Inv-loop μ-loop number-requires loop-holds returns head-requires mul-spacings element-write-spacings mul-deadlines
+    (tie.spec Inv-loop μ-loop number-requires loop-holds head-requires mul-spacings element-write-spacings mul-deadlines
     element-write-deadlines mul-sizes element-write-sizes mul-last cast-last add-last mul-phases phases-requires add-i loop-less loop-again
-    returns-2)
+    returns)
