@@ -1,7 +1,7 @@
 -- The items of a table, by what the functions below each answer: a number, a phase, a task, the end, the whole.
 -- Assumes nothing.
 use Prim.Native.Nat.{ℕ, _+_, _-_, _*_, _≤_, _<_}
-use mathlib.Core.Path.{_≡_, refl, ap, sym, _∙_}
+use mathlib.Core.Path.{_≡_, refl, ap, sym, subst, _∙_}
 use mathlib.Core.List.{List, [], _∷_}
 use mathlib.Core.Bool.{Bool, true, false, _||_, true≢false}
 use native.Mathlib.Nat.{add-sub-cancel-left, sub-zero}
@@ -20,10 +20,11 @@ use Rattle.table.specs.declared.ParseOutcome.the-variants.{Parsed, Turne
 use Rattle.table.specs.declared.Parsing.{Parsing}
 use Rattle.table.specs.declared.Reading.{Reading}
 use Rattle.table.specs.declared.ReadOutcome.the-variants.{TurnedAway as NotRead}
-use Rattle.table.specs.declared.items.NumberRead.{NumberRead}
+use Rattle.table.specs.declared.items.Found.{Found}
+use Rattle.table.specs.declared.items.Found.the-variants.{Value as IsNumber, Away as NoNumber}
 use Rattle.table.specs.declared.items.Step.{Step}
 use Rattle.table.specs.Parse.{Result, got, away, Parser, andThen, _>>=_, _>>_, done, tested, numberIn, numbersIn, each, phase, task, nothingBehind, numbers, table, empty, withPhase, withTask, parsedOf, limitOf, readingOf}
-use Rattle.table.specs.Steps.{readTo, awayAt, allTasks, limitedBy, Reads, Leaves, Ranged, NumberFrom, PhasesFrom, EndFrom}
+use Rattle.table.specs.Steps.{readTo, readOf, stepAt, allTasks, limitedBy, Reads, Leaves, Ranged, NumberFrom, PhasesFrom, EndFrom}
 use Rattle.table.specs.TaskModel.{tableOf, tasksOf}
 use Rattle.table.specs.Valid.{InRange}
 use Rattle.table.proofs.Ranges.{limited-reading}
@@ -32,8 +33,8 @@ use Rattle.table.proofs.Valid.{numbers-in-range}
 
 -- ---- a number
 
-module _ {at value place least most : ℕ} {r : NumberRead} where
-  pub outside : r ≡ awayAt 4 at → (ltb value least || ltb most value) ≡ true → Ranged at value place least most r
+module _ {at value place least most : ℕ} {r : Found} where
+  pub outside : r ≡ NoNumber 4 at → (ltb value least || ltb most value) ≡ true → Ranged at value place least most (readOf r)
   outside n e = rw n (record { is = λ bytes. go (ltb value least) (ltb most value) e; high = omega arith })
     where
       go : (a b : Bool) → (a || b) ≡ true → away 4 at ≡ (if a then away 4 at else if b then away 4 at else got value place)
@@ -41,7 +42,7 @@ module _ {at value place least most : ℕ} {r : NumberRead} where
       go false true e = refl
       go false false e = absurd (true≢false (sym e))
 
-  pub inside : r ≡ record { reason = 0; place = place; value = value } → (ltb value least || ltb most value) ≡ false → Ranged at value place least most r
+  pub inside : r ≡ IsNumber value place → (ltb value least || ltb most value) ≡ false → Ranged at value place least most (readOf r)
   inside n e = rw n (record { is = λ bytes. go (ltb value least) (ltb most value) e .0; high = ltb-false most value (go (ltb value least) (ltb most value) e .1) })
     where
       go : (a b : Bool) → (a || b) ≡ false → (got value place ≡ (if a then away 4 at else if b then away 4 at else got value place)) × (b ≡ false)
@@ -49,82 +50,82 @@ module _ {at value place least most : ℕ} {r : NumberRead} where
       go false true e = absurd (true≢false e)
       go false false e = (refl, refl)
 
-module _ {bytes : List ℕ} {reason place least most : ℕ} {r : NumberRead} where
+module _ {bytes : List ℕ} {from : Step} {least most : ℕ} {r : Found} where
   -- turned away before
-  pub number-away : (reason ≡ 0 → ⊥) → r ≡ awayAt reason place → NumberFrom bytes reason place least most r
-  number-away some is = rw is (record { reads = record { is = rw (ne-eqb reason 0 some) }; high = omega arith })
+  pub found-away : (from .reason ≡ 0 → ⊥) → r ≡ NoNumber (from .reason) (from .place) → NumberFrom bytes from least most (readOf r)
+  found-away some is = rw is (record { reads = record { is = rw (ne-eqb (from .reason) 0 some) }; high = omega arith })
 
 -- a number is due where the reason is 0: what the number reader answers there, tested
-module _ (bytes : List ℕ) (reason place least most : ℕ) (z : reason ≡ 0) (x : Number) (is : x ≡ numberAt bytes place) (r : NumberRead) where
-  number-by : (y : Number) → x ≡ y → readTo (r .reason) (r .place) (r .value) ≡ tested least most y bytes place → r .value ≤ most
-      → NumberFrom bytes reason place least most r
+module _ (bytes : List ℕ) (from : Step) (least most : ℕ) (z : from .reason ≡ 0) (x : Number) (is : x ≡ numberAt bytes (from .place)) (r : Found) where
+  found-by : (y : Number) → x ≡ y → readTo (readOf r .step) (readOf r .value) ≡ tested least most y bytes (from .place) → readOf r .value ≤ most
+      → NumberFrom bytes from least most (readOf r)
   unfolding numberIn
-  number-by y e n high = record {
-    reads = record { is = rw (eq-eqb reason 0 z) (ap (λ (z : Number). tested least most z bytes place) (sym is ∙ e) ∙ sym n) };
+  found-by y e n high = record {
+    reads = record { is = rw (eq-eqb (from .reason) 0 z) (ap (λ (w : Number). tested least most w bytes (from .place)) (sym is ∙ e) ∙ sym n) };
     high = high;
   }
 
-  pub number-ranged : (value next : ℕ) → x ≡ Value value next → Ranged place value next least most r → NumberFrom bytes reason place least most r
-  number-ranged value next e n = number-by (Value value next) e (n .is bytes) (n .high)
+  pub found-ranged : (value next : ℕ) → x ≡ Value value next → Ranged (from .place) value next least most (readOf r) → NumberFrom bytes from least most (readOf r)
+  found-ranged value next e n = found-by (Value value next) e (n .is bytes) (n .high)
 
-  pub number-ends : x ≡ Ends → r ≡ awayAt 2 (length bytes) → NumberFrom bytes reason place least most r
-  number-ends e n = number-by Ends e (rw n) (rw n (omega arith))
+  pub found-ends : x ≡ Ends → r ≡ NoNumber 2 (length bytes) → NumberFrom bytes from least most (readOf r)
+  found-ends e n = found-by Ends e (rw n) (rw n (omega arith))
 
-  pub number-malformed : x ≡ Malformed → r ≡ awayAt 3 place → NumberFrom bytes reason place least most r
-  number-malformed e n = number-by Malformed e (rw n) (rw n (omega arith))
+  pub found-malformed : x ≡ Malformed → r ≡ NoNumber 3 (from .place) → NumberFrom bytes from least most (readOf r)
+  found-malformed e n = found-by Malformed e (rw n) (rw n (omega arith))
+
+-- what was found, as a number that was read
+pub number-of : {bytes : List ℕ} {from : Step} {least most : ℕ} {r : Found} → NumberFrom bytes from least most (readOf r) → (y : Found) → r ≡ y
+    → NumberFrom bytes from least most (readOf y)
+number-of {bytes} {from} {least} {most} n y e = subst (λ (f : Found). NumberFrom bytes from least most (readOf f)) e n
 
 -- ---- a phase, a task
 
 -- numbers one behind the other, each within its range, from a step up to a step
-pub record NumbersRead (bytes : List ℕ) (reason place : ℕ) (ranges : List FromTo) (reason′ place′ : ℕ) (ns : List ℕ) : Type 0 where
-  pub reads : Reads bytes reason place (numbersIn ranges) reason′ place′ ns
+pub record NumbersRead (bytes : List ℕ) (from : Step) (ranges : List FromTo) (to : Step) (ns : List ℕ) : Type 0 where
+  pub reads : Reads bytes from (numbersIn ranges) to ns
 
-module _ {bytes : List ℕ} {reason place : ℕ} where
-  pub no-number : NumbersRead bytes reason place [] reason place []
+module _ {bytes : List ℕ} {from : Step} where
+  pub no-number : NumbersRead bytes from [] from []
   unfolding numbersIn
   no-number = record { reads = record { is = refl } }
 
-  pub one-number : {range : FromTo} {ranges : List FromTo} {rn pn rs ps n : ℕ} {ns : List ℕ}
-      → Reads bytes reason place (numberIn (range .least) (range .most)) rn pn n
-      → NumbersRead bytes rn pn ranges rs ps ns
-      → NumbersRead bytes reason place (range ∷ ranges) rs ps (n ∷ ns)
+  pub one-number : {range : FromTo} {ranges : List FromTo} {mid to : Step} {n : ℕ} {ns : List ℕ} → Reads bytes from (numberIn (range .least) (range .most)) mid n
+      → NumbersRead bytes mid ranges to ns → NumbersRead bytes from (range ∷ ranges) to (n ∷ ns)
   unfolding numbersIn
   one-number f o = record { reads = then-done _ (go-on (next _ _ f) (next _ _ (o .reads))) }
 
-  pub phase-by : {rp pp : ℕ} {ns : List ℕ} (k : ℕ) (t : Table) → NumbersRead bytes reason place phaseNumbers rp pp ns
-      → Reads bytes reason place (phase k t) rp pp (withPhase k ns t)
+  pub phase-by : {to : Step} {ns : List ℕ} (k : ℕ) (t : Table) → NumbersRead bytes from phaseNumbers to ns → Reads bytes from (phase k t) to (withPhase k ns t)
   unfolding phase
   phase-by k t n = then-done _ (next _ _ (n .reads))
 
-  pub head-by : {rt pt rd pd rm pm spacing deadline count : ℕ} (i : ℕ) (t : Table)
-      → Reads bytes reason place (numberIn 1 spacingMost) rt pt spacing
-      → Reads bytes rt pt (numberIn 1 spacing) rd pd deadline
-      → Reads bytes rd pd (numberIn 1 phasesMost) rm pm count
-      → Leaves bytes reason place (task i t) rm pm (each phase count (8 * i) (withTask i spacing deadline count t))
+  pub head-by : {sT sD sm : Step} {spacing deadline count : ℕ} (i : ℕ) (t : Table) → Reads bytes from (numberIn 1 spacingMost) sT spacing
+      → Reads bytes sT (numberIn 1 spacing) sD deadline → Reads bytes sD (numberIn 1 phasesMost) sm count
+      → Leaves bytes from (task i t) sm (each phase count (8 * i) (withTask i spacing deadline count t))
   unfolding task
   head-by i t T D m = go-on (next _ _ T) (go-on (next _ _ D) (next _ _ m))
 
 -- so many phases from a place on, put into arrays that were lent
-pub phases-of : {bytes : List ℕ} {reason place : ℕ} (first count : ℕ) (a : Arrays) {before after : Arrays → Arrays} {r : Step}
-    → PhasesFrom bytes reason place first (first + count) before after r → before a ≡ a
-    → Reads bytes reason place (each phase count first (tableOf a)) (r .reason) (r .place) (tableOf (after a))
+pub phases-of : {bytes : List ℕ} {from to : Step} (first count : ℕ) (a : Arrays) {before after : Arrays → Arrays}
+    → PhasesFrom bytes from first (first + count) before after to → before a ≡ a
+    → Reads bytes from (each phase count first (tableOf a)) to (tableOf (after a))
 phases-of first count a f own = rw (add-sub-cancel-left, own) at (f .reads a)
 
 -- ---- the end, and the whole
 
-module _ {bytes : List ℕ} {reason place : ℕ} where
-  pub end-behind : reason ≡ 0 → place < length bytes → EndFrom bytes reason place (record { reason = 5; place = place })
-  end-behind z h = record { reads = record { is = rw (eq-eqb reason 0 z, lt-ltb place (length bytes) h) } }
+module _ {bytes : List ℕ} {from : Step} where
+  pub end-behind : from .reason ≡ 0 → from .place < length bytes → EndFrom bytes from (stepAt 5 (from .place))
+  end-behind z h = record { reads = record { is = rw (eq-eqb (from .reason) 0 z, lt-ltb (from .place) (length bytes) h) } }
 
-  pub end-here : reason ≡ 0 → length bytes ≤ place → EndFrom bytes reason place (record { reason = reason; place = place })
-  end-here z h = record { reads = record { is = rw (eq-eqb reason 0 z, le-ltb place (length bytes) h) } }
+  pub end-here : from .reason ≡ 0 → length bytes ≤ from .place → EndFrom bytes from from
+  end-here z h = record { reads = record { is = rw (eq-eqb (from .reason) 0 z, le-ltb (from .place) (length bytes) h) } }
 
-  pub end-away : (reason ≡ 0 → ⊥) → EndFrom bytes reason place (record { reason = reason; place = place })
-  end-away some = record { reads = record { is = rw (ne-eqb reason 0 some) } }
+  pub end-away : (from .reason ≡ 0 → ⊥) → EndFrom bytes from from
+  end-away some = record { reads = record { is = rw (ne-eqb (from .reason) 0 some) } }
 
 -- the number of tasks was read: the tasks are left
-pub tasks-by : {bytes : List ℕ} {reason place count : ℕ} (before : Arrays) → Reads bytes 0 0 (numberIn 1 tasksMost) reason place count
-    → Leaves bytes 0 0 (allTasks before) reason place (each task (count - 0) 0 (tableOf (withCount count before)))
+pub tasks-by : {bytes : List ℕ} {to : Step} {count : ℕ} (before : Arrays) → Reads bytes (stepAt 0 0) (numberIn 1 tasksMost) to count
+    → Leaves bytes (stepAt 0 0) (allTasks before) to (each task (count - 0) 0 (tableOf (withCount count before)))
 unfolding allTasks
 tasks-by before n = rw sub-zero (next _ _ n)
 
@@ -132,22 +133,21 @@ assoc : {A B C : Type 0} (x : Result A) (f : A → Parser B) (g : B → Parser C
 assoc (got a at) f g s = refl
 assoc (away reason place) f g s = refl
 
-pub numbers-by : {bytes : List ℕ} {rt pt re pe : ℕ} {t : Table}
-    → Reads bytes 0 0 (allTasks emptyArrays) rt pt t
-    → Reads bytes rt pt nothingBehind re pe tt
-    → readTo re pe t ≡ numbers bytes 0
+pub numbers-by : {bytes : List ℕ} {mid to : Step} {t : Table} → Reads bytes (stepAt 0 0) (allTasks emptyArrays) mid t → Reads bytes mid nothingBehind to tt
+    → readTo to t ≡ numbers bytes 0
 unfolding numbers empty allTasks
 numbers-by {bytes} {t = t} ts e =
     sym (then-done t (go-on (next bytes (λ u. _>>_ nothingBehind (done u)) ts) (next bytes (λ u. done t) e)) .is)
     ∙ assoc (numberIn 1 tasksMost bytes 0) _ (λ u. _>>_ nothingBehind (done u)) bytes
 
 -- the last step, as an answer
-module _ (reason place : ℕ) (t : Table) where
-  pub parsed-all : reason ≡ 0 → _≡_ {A = Parsing} (record { outcome = Parsed; table = t }) (parsedOf (readTo reason place t))
-  parsed-all z = rw (eq-eqb reason 0 z)
+module _ (step : Step) (t : Table) where
+  pub parsed-all : step .reason ≡ 0 → _≡_ {A = Parsing} (record { outcome = Parsed; table = t }) (parsedOf (readTo step t))
+  parsed-all z = rw (eq-eqb (step .reason) 0 z)
 
-  pub parsed-away : (reason ≡ 0 → ⊥) → {u : Table} → u ≡ empty → _≡_ {A = Parsing} (record { outcome = TurnedAway reason place; table = u }) (parsedOf (readTo reason place t))
-  parsed-away some e = rw (ne-eqb reason 0 some, e)
+  pub parsed-away : (step .reason ≡ 0 → ⊥) → {u : Table} → u ≡ empty
+      → _≡_ {A = Parsing} (record { outcome = TurnedAway (step .reason) (step .place); table = u }) (parsedOf (readTo step t))
+  parsed-away some e = rw (ne-eqb (step .reason) 0 some, e)
 
 -- what a caller of `parse` learns of its outcome
 pub was-parsed : (x : Result Table) {p : Parsing} → p ≡ parsedOf x → p .outcome ≡ Parsed → (next : ℕ) × (x ≡ got (p .table) next)

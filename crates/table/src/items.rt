@@ -1,14 +1,12 @@
 // The items of a table in bytes, read from left to right: a number, the numbers of a task, and the loops that store them and those of the phases.
-// A step is a reason and a place: reason 0 and the place behind what was read, or the reason for turning the table away and its place. Every
-// function goes on from a step; from one that turned the table away it gives that back, so that only `number` and `end` ask.
+// Every function goes on from a step; from one that turned the table away it gives that back, so that only `number` and `end` ask.
 use crate::Table;
 use groups::Number;
-ghost use mathlib.Core.Path.{_≡_};
 ghost use Prim.Native.Nat.{_≤_};
 ghost use Rattle.model.specs.Arrays.{arraysAs, withPhases};
-ghost use Rattle.table.specs.Steps.{awayAt, EndFrom, HeadFrom, NumberFrom, Ranged, PhasesFrom, TasksFrom};
+ghost use Rattle.table.specs.Steps.{EndFrom, HeadFrom, NumberFrom, Ranged, readOf, PhasesFrom, TasksFrom};
 
-// Where reading stands.
+// Where reading stands: reason 0 and the place behind what was read, or the reason for turning the table away and its place.
 pub struct Step {
     pub reason: u8,
     pub place: usize,
@@ -16,15 +14,13 @@ pub struct Step {
 
 // The step behind a number within its range, and the number; 0 where the table is turned away.
 pub struct NumberRead {
-    pub reason: u8,
-    pub place: usize,
+    pub step: Step,
     pub value: u64,
 }
 
 // The step behind the numbers of a task, where its phases follow, and the numbers.
 pub struct HeadRead {
-    pub reason: u8,
-    pub place: usize,
+    pub step: Step,
     pub spacing: u32,
     pub deadline: u32,
     pub phases: u32,
@@ -32,78 +28,73 @@ pub struct HeadRead {
 
 // The step behind the tasks, and their number.
 pub struct TasksRead {
-    pub reason: u8,
-    pub place: usize,
+    pub step: Step,
     pub count: usize,
 }
 
-// No number: the table is turned away.
-fn away(reason: u8, place: usize) -> NumberRead
-    ensures { λ r. ⌜ r ≡ awayAt reason place ⌝ }
-{
-    NumberRead {
-        reason,
-        place,
-        value: 0,
-    }
+// What is found where a number is due: the number and the place behind it, or the reason and the place for turning the table away. (An enum, and not
+// a step with a number or 0: so the compiler branches where a number is out of range, and does not wait for each test to know the next place.)
+enum Found {
+    Value(u64, usize),
+    Away(u8, usize),
 }
 
 // A number that stands at `at`, tested for its range: outside it, reason 4.
-fn ranged(at: usize, value: u64, place: usize, least: u64, most: u64) -> NumberRead
-    ensures { λ r. ⌜ Ranged at value place least most r ⌝ }
+fn ranged(at: usize, value: u64, place: usize, least: u64, most: u64) -> Found
+    ensures { λ r. ⌜ Ranged at value place least most (readOf r) ⌝ }
 {
     if (value < least) | (most < value) {
-        return away(4, at);
+        return Found::Away(4, at);
     }
-    NumberRead {
-        reason: 0,
-        place,
-        value,
+    Found::Value(value, place)
+}
+
+// What is found at a step, where a number from `least` to `most` is due.
+fn found_at(bytes: &[u8], step: Step, least: u64, most: u64) -> Found
+    ensures { λ r. ⌜ NumberFrom (now (bytes .entry)) step least most (readOf r) ⌝ }
+{
+    let at = step.place;
+    if step.reason != 0 {
+        return Found::Away(step.reason, at);
+    }
+    match groups::read(bytes, at) {
+        Number::Value(value, place) => ranged(at, value, place, least, most),
+        Number::Ends => Found::Away(2, bytes.len()),
+        Number::Malformed => Found::Away(3, at),
     }
 }
 
 // The number from `least` to `most` that is due at a step.
-fn number(bytes: &[u8], reason: u8, place: usize, least: u64, most: u64) -> NumberRead
-    ensures { λ r. ⌜ NumberFrom (now (bytes .entry)) reason place least most r ⌝ }
+fn number(bytes: &[u8], step: Step, least: u64, most: u64) -> NumberRead
+    ensures { λ r. ⌜ NumberFrom (now (bytes .entry)) step least most r ⌝ }
 {
-    if reason != 0 {
-        return away(reason, place);
-    }
-    match groups::read(bytes, place) {
-        Number::Value(value, next) => ranged(place, value, next, least, most),
-        Number::Ends => away(2, bytes.len()),
-        Number::Malformed => away(3, place),
+    match found_at(bytes, step, least, most) {
+        Found::Value(value, place) => NumberRead {
+            step: Step { reason: 0, place },
+            value,
+        },
+        Found::Away(reason, place) => NumberRead {
+            step: Step { reason, place },
+            value: 0,
+        },
     }
 }
 
 // The numbers of a task: T, D, the number of phases.
-fn head(bytes: &[u8], reason: u8, place: usize) -> HeadRead
-    ensures { λ r. ⌜ HeadFrom (now (bytes .entry)) reason place r ⌝ }
+fn head(bytes: &[u8], step: Step) -> HeadRead
+    ensures { λ r. ⌜ HeadFrom (now (bytes .entry)) step r ⌝ }
 {
-    let spacing = number(
-        bytes,
-        reason,
-        place,
-        Table::SPACING_LEAST,
-        Table::SPACING_MOST,
-    );
-    let deadline = number(
-        bytes,
-        spacing.reason,
-        spacing.place,
-        Table::DEADLINE_LEAST,
-        spacing.value,
-    );
+    let spacing = number(bytes, step, Table::SPACING_LEAST, Table::SPACING_MOST);
+    let deadline = number(bytes, spacing.step, Table::DEADLINE_LEAST, spacing.value);
     let phases = number(
         bytes,
-        deadline.reason,
-        deadline.place,
+        deadline.step,
         Table::PHASES_LEAST,
         Table::PHASES_MOST,
     );
+    let next = phases.step;
     HeadRead {
-        reason: phases.reason,
-        place: phases.place,
+        step: next,
         spacing: spacing.value as u32,
         deadline: deadline.value as u32,
         phases: phases.value as u32,
@@ -113,41 +104,25 @@ fn head(bytes: &[u8], reason: u8, place: usize) -> HeadRead
 // Phases, put at the places from `first` up to `last` of the lent arrays. (Where they are turned away, nobody looks at the arrays.)
 fn phases(
     bytes: &[u8],
-    reason: u8,
-    place: usize,
+    from: Step,
     first: usize,
     last: usize,
     works: &mut [u32; 256],
     costs: &mut [u32; 256],
 ) -> Step
     requires { ⌜ last ≤ 256 ⌝ }
-    ensures { λ r. ⌜ PhasesFrom (now (bytes .entry)) reason place first last
+    ensures { λ r. ⌜ PhasesFrom (now (bytes .entry)) from first last
         (withPhases (now (works .entry)) (now (costs .entry)))
         (withPhases (now (works .exit)) (now (costs .exit))) r ⌝ }
 {
-    let mut step = Step { reason, place };
+    let mut step = from;
     let mut k = first;
     while k < last {
-        let c = number(
-            bytes,
-            step.reason,
-            step.place,
-            Table::WORK_LEAST,
-            Table::WORK_MOST,
-        );
-        let q = number(
-            bytes,
-            c.reason,
-            c.place,
-            Table::COST_LEAST,
-            Table::COST_MOST,
-        );
-        works[k] = c.value as u32;
-        costs[k] = q.value as u32;
-        step = Step {
-            reason: q.reason,
-            place: q.place,
-        };
+        let work = number(bytes, step, Table::WORK_LEAST, Table::WORK_MOST);
+        let cost = number(bytes, work.step, Table::COST_LEAST, Table::COST_MOST);
+        works[k] = work.value as u32;
+        costs[k] = cost.value as u32;
+        step = cost.step;
         k = k + 1;
     }
     step
@@ -166,37 +141,35 @@ pub fn tasks(
         (arraysAs 0 (now (spacings .entry)) (now (deadlines .entry)) (now (sizes .entry)) (now (works .entry)) (now (costs .entry)))
         (arraysAs 0 (now (spacings .exit)) (now (deadlines .exit)) (now (sizes .exit)) (now (works .exit)) (now (costs .exit))) r ⌝ }
 {
-    let n = number(bytes, 0, 0, Table::TASKS_LEAST, Table::TASKS_MOST);
-    let count = n.value as usize;
-    let mut step = Step {
-        reason: n.reason,
-        place: n.place,
+    let start = Step {
+        reason: 0,
+        place: 0,
     };
+    let n = number(bytes, start, Table::TASKS_LEAST, Table::TASKS_MOST);
+    let count = n.value as usize;
+    let mut step = n.step;
     let mut i: usize = 0;
     while i < count {
-        let h = head(bytes, step.reason, step.place);
+        let h = head(bytes, step);
         spacings[i] = h.spacing;
         deadlines[i] = h.deadline;
         sizes[i] = h.phases;
         let last = 8 * i + h.phases as usize;
-        step = phases(bytes, h.reason, h.place, 8 * i, last, works, costs);
+        step = phases(bytes, h.step, 8 * i, last, works, costs);
         i = i + 1;
     }
-    TasksRead {
-        reason: step.reason,
-        place: step.place,
-        count,
-    }
+    TasksRead { step, count }
 }
 
 // The end of the table: bytes behind it are reason 5.
-pub fn end(bytes: &[u8], reason: u8, place: usize) -> Step
-    ensures { λ r. ⌜ EndFrom (now (bytes .entry)) reason place r ⌝ }
+pub fn end(bytes: &[u8], step: Step) -> Step
+    ensures { λ r. ⌜ EndFrom (now (bytes .entry)) step r ⌝ }
 {
-    if reason == 0 {
+    let place = step.place;
+    if step.reason == 0 {
         if place < bytes.len() {
             return Step { reason: 5, place };
         }
     }
-    Step { reason, place }
+    step
 }

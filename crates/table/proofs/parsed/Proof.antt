@@ -8,10 +8,10 @@ empty-requires : tie.Need-empty-requires
 empty-requires c κs = search needs
 
 returns : tie.Need-returns
-returns c = parsed-all _ _ _ (c .if1 .taken)
+returns c = parsed-all _ _ (c .if1 .taken)
 
 returns-2 : tie.Need-returns-2
-returns-2 c = parsed-away _ _ _ (c .before .if1 .left) (c .empty .ensures)
+returns-2 c = parsed-away _ _ (c .before .if1 .left) (c .empty .ensures)
 
 pub parsed-spec : {M : Type 1} → statement M
 parsed-spec = tie.close (tie.spec empty-requires returns returns-2)

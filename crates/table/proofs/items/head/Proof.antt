@@ -24,7 +24,7 @@ cast-t9 c = search needs
 
 returns : tie.Need-returns
 returns c =
-    let m = c .before .before .before in
+    let m = c .before .before .before .before in
     let d = m .before in
     record { leaves = λ i t. head-by i t (d .before .number .ensures .reads) (d .number2 .ensures .reads) (m .number3 .ensures .reads); few = m .number3 .ensures .high }
 

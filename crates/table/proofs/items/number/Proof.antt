@@ -1,57 +1,24 @@
--- `number` meets its contract: a number is due where the reason is 0, and each case of what `groups::read` finds is a case of `tested`.
--- Assumes nothing.
+-- `number` meets its contract: what was found, case by case. Assumes nothing.
 use borrow.Author.Needs.{needs}
-use Rattle.table.proofs.ItemLaws.{number-away, number-ranged, number-ends, number-malformed}
+use Rattle.table.specs.declared.items.Found.the-variants.{Value, Away}
+use Rattle.table.proofs.ItemLaws.{number-of}
 use Rattle.table.proofs.items.number.Statement.{statement}
 use Rattle.table.proofs.items.number.Tie as tie
 
-away-requires : tie.Need-away-requires
-away-requires c κs = search needs
-
-returns : tie.Need-returns
-returns c = number-away (c .before .if1 .taken) (c .away .ensures)
-
-read-requires : tie.Need-read-requires
-read-requires c κs = search needs
+found-at-requires : tie.Need-found-at-requires
+found-at-requires c κs = search needs
 
 enum-known-value : tie.Need-enum-known-value
 enum-known-value c = search needs
 
-ranged-requires : tie.Need-ranged-requires
-ranged-requires c κs = search needs
+enum-known-reason : tie.Need-enum-known-reason
+enum-known-reason c = search needs
 
-enum-told : tie.Need-enum-told
-enum-told c = search needs
-
-away-requires-2 : tie.Need-away-requires-2
-away-requires-2 c κs = search needs
-
-enum-told-2 : tie.Need-enum-told-2
-enum-told-2 c = search needs
-
-away-requires-3 : tie.Need-away-requires-3
-away-requires-3 c κs = search needs
+returns : tie.Need-returns
+returns c = let f = c .before in number-of (f .before .before .found-at .ensures) (Value _ _) (f .value .given .1)
 
 returns-2 : tie.Need-returns-2
-returns-2 c =
-    let v = c .before .before in
-    let r = v .before .before in
-    number-ranged _ _ _ _ _ (r .before .if1 .left) _ (r .read .ensures) _ _ _ (v .value .given .1) (c .ranged .ensures)
-
-returns-3 : tie.Need-returns-3
-returns-3 c =
-    let e = c .before in
-    let r = e .before .before in
-    number-ends _ _ _ _ _ (r .before .if1 .left) _ (r .read .ensures) _ (e .enum-told .given .1) (c .away2 .ensures)
-
-returns-4 : tie.Need-returns-4
-returns-4 c =
-    let e = c .before in
-    let r = e .before .before in
-    number-malformed _ _ _ _ _ (r .before .if1 .left) _ (r .read .ensures) _ (e .enum-told2 .given .1) (c .away3 .ensures)
+returns-2 c = let f = c .before in number-of (f .before .before .found-at .ensures) (Away _ _) (f .reason .given .1)
 
 pub number-spec : {M : Type 1} → statement M
-number-spec =
-    tie.close
-    (tie.spec away-requires returns read-requires enum-known-value ranged-requires enum-told away-requires-2 enum-told-2 away-requires-3
-    returns-2 returns-3 returns-4)
+number-spec = tie.close (tie.spec found-at-requires enum-known-value enum-known-reason returns returns-2)

@@ -12,12 +12,11 @@ use Rattle.table.proofs.items.phases.Statement.{statement}
 use Rattle.table.proofs.items.phases.Tie as tie
 
 abbrev Inv-loop : tie.InvT-loop
-Inv-loop bytes reason place first last works₀ costs₀ step₀ k₀ works costs step k = (a : Arrays) → Leaves bytes reason place
-    (each phase (last - first) first (tableOf (withPhases works₀ costs₀ a))) (step .reason) (step .place)
-    (each phase (last - k) k (tableOf (withPhases works costs a)))
+Inv-loop bytes first last works₀ costs₀ step₀ k₀ works costs step k = (a : Arrays) → Leaves bytes step₀
+    (each phase (last - first) first (tableOf (withPhases works₀ costs₀ a))) step (each phase (last - k) k (tableOf (withPhases works costs a)))
 
 abbrev μ-loop : tie.MeasureT-loop
-μ-loop bytes reason place first last works₀ costs₀ step₀ k₀ works costs step k = last - k
+μ-loop bytes first last works₀ costs₀ step₀ k₀ works costs step k = last - k
 
 loop-holds : tie.Need-loop-holds Inv-loop μ-loop
 loop-holds c = λ a. record { is = refl }
@@ -54,7 +53,7 @@ loop-less c = search needs
 
 loop-again : tie.Need-loop-again Inv-loop μ-loop
 loop-again c = λ a.
-    let cost = c .before .before in
+    let cost = c .before .before .before in
     let work = cost .before in
     let l = work .before in
     go-on (l .before .loop .inv a)

@@ -4,7 +4,7 @@ use mathlib.Core.Path.{refl}
 use borrow.Author.Needs.{needs}
 use Rattle.model.specs.Arrays.{arraysAs}
 use Rattle.table.specs.Parse.{each, task}
-use Rattle.table.specs.Steps.{allTasks, Leaves}
+use Rattle.table.specs.Steps.{allTasks, Leaves, stepAt}
 use Rattle.table.specs.TaskModel.{tableOf}
 use Rattle.table.proofs.ItemLaws.{phases-of, tasks-by}
 use Rattle.table.proofs.Steps.{go-on, and-reads, again, finish}
@@ -13,7 +13,7 @@ use Rattle.table.proofs.items.tasks.Tie as tie
 
 abbrev Inv-loop : tie.InvT-loop
 Inv-loop bytes spacings₀ deadlines₀ sizes₀ works₀ costs₀ count step₀ i₀ spacings deadlines sizes works costs step i =
-    (count ≤ 32) × Leaves bytes 0 0 (allTasks (arraysAs 0 spacings₀ deadlines₀ sizes₀ works₀ costs₀)) (step .reason) (step .place)
+    (count ≤ 32) × Leaves bytes (stepAt 0 0) (allTasks (arraysAs 0 spacings₀ deadlines₀ sizes₀ works₀ costs₀)) step
     (each task (count - i) i (tableOf (arraysAs count spacings deadlines sizes works costs)))
 
 abbrev μ-loop : tie.MeasureT-loop
@@ -23,7 +23,7 @@ number-requires : tie.Need-number-requires Inv-loop μ-loop
 number-requires c κs = search needs
 
 loop-holds : tie.Need-loop-holds Inv-loop μ-loop
-loop-holds c = (search needs, tasks-by _ (c .number .ensures .reads))
+loop-holds c = (search needs, tasks-by _ (c .before .number .ensures .reads))
 
 head-requires : tie.Need-head-requires Inv-loop μ-loop
 head-requires c κs = search needs
