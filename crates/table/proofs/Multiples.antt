@@ -12,6 +12,7 @@ use lib.Dec.{eqb, ltb}
 use borrow.Author.Tests.{eq-eqb, ne-eqb, lt-ltb, le-ltb}
 use Rattle.finite.specs.Finite.{Below, sumTo}
 use Rattle.finite.specs.laws.Tests.{cond-true, cond-false, eqb-decides, failed, le-or-lt}
+use Rattle.model.specs.Ranges.{tasksMost}
 use Rattle.model.specs.TestPoints.{gcd, gcdIn, lcm, lcmTo}
 use Rattle.model.specs.laws.Lcm.{Multiple, gcd-ok, lcm-ok, lcmTo-ok}
 use Rattle.table.specs.Horizon.{zeroAbove, Spacings}
@@ -176,11 +177,11 @@ module _ {limit h : ℕ} {ts : List ℕ} {n i sum t : ℕ} (u : Summed limit h t
   sum-more = ap₂ (λ (a b : ℕ). a + h / b) (u .so-far) (u .here) ∙ sym (ap (λ (m : ℕ). sumTo m (λ k. h / getD ts k 0)) (add-one i))
 
   -- each task adds at most the limit
-  pub sum-small : (sum + h / t ≤ (i + 1) * limit) × (sum + h / t ≤ 32 * limit)
+  pub sum-small : (sum + h / t ≤ (i + 1) * limit) × (sum + h / t ≤ tasksMost * limit)
   sum-small =
       let q = div-le-self h t in
-      let few : i + 1 ≤ 32 = omega (arith, u .some, u .sp .few) in
-      let all : (i + 1) * limit ≤ 32 * limit = mul-le-mul-right limit few in
+      let few : i + 1 ≤ tasksMost = omega (arith, u .some, u .sp .few) in
+      let all : (i + 1) * limit ≤ tasksMost * limit = mul-le-mul-right limit few in
       let one : (i + 1) * limit ≡ i * limit + limit = add-mul i 1 limit ∙ ap (λ (z : ℕ). i * limit + z) (one-mul limit) in
       (omega (arith, u .small, u .below), omega (arith, u .small, u .below))
 

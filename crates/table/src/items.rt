@@ -1,5 +1,5 @@
 // The items of a table in bytes, read from left to right: a number, the numbers of a task, and the loops that store them and those of the phases.
-// Every function goes on from a step; from one that turned the table away it gives that back, so that only `number` and `end` ask.
+// Every function goes on from a step; from one that turned the table away it gives that back, so that only `found_at` and `end` ask.
 use crate::Table;
 use groups::Number;
 ghost use Prim.Native.Nat.{_≤_};

@@ -10,11 +10,12 @@ use Rattle.model.specs.Demand.{demand, jobs}
 use Rattle.model.specs.Phase.{budget, ceilDiv, longestPiece, phasesOf, pieceLength}
 use Rattle.model.specs.Tasks.{Tasks}
 use Rattle.finite.specs.Finite.{joinTo, listTo}
+use Rattle.model.specs.Arrays.{emptyArrays}
 use Rattle.model.specs.Answer.{answer}
 use Rattle.model.specs.TestPoints.{gcd, gcdIn, horizonOf, isTest, lcm, lcmTo}
 use Rattle.model.specs.Walk.{blockedPhase, blockedTask, lacks, move, moveAt, moveIn, raiseLow, verdict, walk}
 use Rattle.model.specs.Works.{longest}
-use Rattle.table.specs.Parse.{table, numbers, task, phase, each, numberIn, empty}
+use Rattle.table.specs.Parse.{table, numbers, task, phase, each, numberIn, numbersIn, empty}
 use Rattle.table.specs.TaskModel.{jobsWithin}
 use Rattle.worked.specs.Says.{Saying, writes, turnsAway, says, saysOf}
 
@@ -104,5 +105,5 @@ worked = A ∷ B ∷ C ∷ D ∷ E ∷ F ∷ G ∷ H ∷ I ∷ J ∷ K ∷ L ∷
 
 -- THE CLAIM, by computation
 pub worked-tables : map (λ e. e .given) worked ≡ map (λ e. e .said) worked
-unfolding says saysOf jobsWithin table numbers task phase each numberIn groups empty encodeIn encodeAll sumTo maxTo anyTo findTo jobs demand isTest gcdIn gcd lcm lcmTo horizonOf ceilDiv longestPiece budget pieceLength longest raiseLow lacks blockedTask blockedPhase moveIn moveAt move walk verdict listTo joinTo answer
+unfolding says saysOf jobsWithin table numbers task phase each numbersIn numberIn groups empty emptyArrays encodeIn encodeAll sumTo maxTo anyTo findTo jobs demand isTest gcdIn gcd lcm lcmTo horizonOf ceilDiv longestPiece budget pieceLength longest raiseLow lacks blockedTask blockedPhase moveIn moveAt move walk verdict listTo joinTo answer
 worked-tables = refl

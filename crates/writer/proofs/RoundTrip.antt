@@ -13,10 +13,11 @@ use Rattle.finite.specs.laws.Lists.{join-alike, join-from}
 use Rattle.groups.specs.Encode.{encode, encodeAll}
 use Rattle.groups.proofs.Numbers.{none, cons, append, encodeAll-append}
 use Rattle.groups.proofs.RoundTrip.{round-trip}
+use Rattle.model.specs.Arrays.{emptyArrays}
 use Rattle.model.specs.laws.Arrays.{phase-at}
 use Rattle.model.specs.TestPoints.{horizonOf}
 use Rattle.table.specs.declared.Table.{Table}
-use Rattle.table.specs.Parse.{Result, got, numberIn, each, phase, task, numbers, table, nothingBehind, empty, withCount, withTask, withPhase}
+use Rattle.table.specs.Parse.{Result, got, numberIn, numbersIn, each, phase, task, numbers, table, nothingBehind, empty, withCount, withTask, withPhase}
 use Rattle.table.specs.TaskModel.{tasksOf, jobsWithin}
 use Rattle.table.specs.Valid.{Valid}
 use Rattle.writer.specs.Written.{phaseItems, taskItems, tableBytes}
@@ -89,7 +90,7 @@ module _ (t : Table) (v : Valid t) (s : List ℕ) where
 
   phases-back : (left i k : ℕ) (u : Table) (at : ℕ) (r : List ℕ) → k + left ≤ 256 → ((j : ℕ) → k ≤ j → j < k + left → PhaseAt (t .work) (t .cost) j) → Upto t i k u
       → Stands s at (phasesFrom left k) r → Back (each phase left k u s at) (Upto t i (k + left)) s at (phasesFrom left k) r
-  unfolding each phase encodeAll
+  unfolding each phase numbersIn encodeAll
   phases-back zero i k u at r fits h up e = back-as (no-phases k) (record {
     filled = u;
     next = at;
@@ -105,7 +106,7 @@ module _ (t : Table) (v : Valid t) (s : List ℕ) where
       let rest = phasesFrom left (k + 1) in
       let a = number-back 1 workMost c s at (q ∷ rest) r (omega arith) (omega arith) (omega arith) (rw (phase-more left k) at e) in
       let b = number-back 0 costMost q s (a .next) rest r (omega arith) (omega arith) (omega arith) (a .behind) in
-      let up′ : Upto t i (k + 1) (withPhase k c q u) = record {
+      let up′ : Upto t i (k + 1) (withPhase k (c ∷ q ∷ []) u) = record {
         count = up .count;
         spacing = up .spacing;
         deadline = up .deadline;
@@ -113,7 +114,7 @@ module _ (t : Table) (v : Valid t) (s : List ℕ) where
         work = fill (up .work) (omega (arith, v .in-range .sized .work));
         cost = fill (up .cost) (omega (arith, v .in-range .sized .cost));
       } in
-      let d = phases-back left i (k + 1) (withPhase k c q u) (b .next) r (omega arith) (λ j l m. h j (omega arith) (omega arith)) up′ (b .behind) in
+      let d = phases-back left i (k + 1) (withPhase k (c ∷ q ∷ []) u) (b .next) r (omega arith) (λ j l m. h j (omega arith) (omega arith)) up′ (b .behind) in
       back-as (phase-more left k) (record {
         filled = d .filled;
         next = d .next;
@@ -243,7 +244,7 @@ module _ (t : Table) (v : Valid t) (s : List ℕ) where
   }
 
   nothing-yet : Upto t 0 0 (withCount (t .tasks) empty)
-  unfolding empty
+  unfolding empty emptyArrays
   nothing-yet = record {
     count = refl;
     spacing = unfilled 32 (t .spacing) (v .in-range .sized .spacing);

@@ -5,8 +5,9 @@ use mathlib.Core.Path.{_≡_, refl}
 use Rattle.finite.specs.Finite.{joinTo}
 use Rattle.groups.specs.Number.{groups}
 use Rattle.groups.specs.Encode.{encodeIn, encodeAll}
+use Rattle.model.specs.Arrays.{emptyArrays}
 use Rattle.table.specs.declared.Table.{Table}
-use Rattle.table.specs.Parse.{Result, got, away, numberIn, each, phase, task, numbers, empty}
+use Rattle.table.specs.Parse.{Result, got, away, numberIn, numbersIn, each, phase, task, numbers, empty}
 use Rattle.writer.specs.Written.{taskItems, tableBytes}
 
 -- what is written of a table that was read
@@ -24,5 +25,5 @@ tables =
     ∷ []
 
 pub written-again : map (λ (s : List ℕ). again (numbers s 0)) tables ≡ tables
-unfolding numbers task phase each numberIn groups empty taskItems joinTo encodeAll encodeIn
+unfolding numbers task phase each numbersIn numberIn groups empty emptyArrays taskItems joinTo encodeAll encodeIn
 written-again = refl

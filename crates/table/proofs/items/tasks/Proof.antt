@@ -3,6 +3,7 @@ use Prim.Native.Nat.{_-_, _≤_}
 use mathlib.Core.Path.{refl}
 use borrow.Author.Needs.{needs}
 use Rattle.model.specs.Arrays.{arraysAs}
+use Rattle.model.specs.Ranges.{tasksMost}
 use Rattle.table.specs.Parse.{each, task}
 use Rattle.table.specs.Steps.{allTasks, Leaves, stepAt}
 use Rattle.table.specs.TaskModel.{tableOf}
@@ -13,7 +14,7 @@ use Rattle.table.proofs.items.tasks.Tie as tie
 
 abbrev Inv-loop : tie.InvT-loop
 Inv-loop bytes spacings₀ deadlines₀ sizes₀ works₀ costs₀ count step₀ i₀ spacings deadlines sizes works costs step i =
-    (count ≤ 32) × Leaves bytes (stepAt 0 0) (allTasks (arraysAs 0 spacings₀ deadlines₀ sizes₀ works₀ costs₀)) step
+    (count ≤ tasksMost) × Leaves bytes (stepAt 0 0) (allTasks (arraysAs 0 spacings₀ deadlines₀ sizes₀ works₀ costs₀)) step
     (each task (count - i) i (tableOf (arraysAs count spacings deadlines sizes works costs)))
 
 abbrev μ-loop : tie.MeasureT-loop
