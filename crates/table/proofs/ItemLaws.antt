@@ -33,6 +33,7 @@ use Rattle.table.proofs.Valid.{numbers-in-range}
 
 -- ---- a number
 
+-- outside its range, and inside
 module _ {at value place least most : ℕ} {r : Found} where
   pub outside : r ≡ NoNumber 4 at → (ltb value least || ltb most value) ≡ true → Ranged at value place least most (readOf r)
   outside n e = rw n (record { is = λ bytes. go (ltb value least) (ltb most value) e; high = omega arith })
@@ -86,6 +87,7 @@ pub record NumbersRead (bytes : List ℕ) (from : Step) (ranges : List FromTo) (
   pub reads : Reads bytes from (numbersIn ranges) to ns
 
 module _ {bytes : List ℕ} {from : Step} where
+  -- none, and one before the others
   pub no-number : NumbersRead bytes from [] from []
   unfolding numbersIn
   no-number = record { reads = record { is = refl } }
@@ -95,10 +97,12 @@ module _ {bytes : List ℕ} {from : Step} where
   unfolding numbersIn
   one-number f o = record { reads = then-done _ (go-on (next _ _ f) (next _ _ (o .reads))) }
 
+  -- the numbers of a phase
   pub phase-by : {to : Step} {ns : List ℕ} (k : ℕ) (t : Table) → NumbersRead bytes from phaseNumbers to ns → Reads bytes from (phase k t) to (withPhase k ns t)
   unfolding phase
   phase-by k t n = then-done _ (next _ _ (n .reads))
 
+  -- the numbers of a task: its phases are left
   pub head-by : {sT sD sm : Step} {spacing deadline count : ℕ} (i : ℕ) (t : Table) → Reads bytes from (numberIn 1 spacingMost) sT spacing
       → Reads bytes sT (numberIn 1 spacing) sD deadline → Reads bytes sD (numberIn 1 phasesMost) sm count
       → Leaves bytes from (task i t) sm (each phase count (8 * i) (withTask i spacing deadline count t))
@@ -129,10 +133,12 @@ pub tasks-by : {bytes : List ℕ} {to : Step} {count : ℕ} (before : Arrays) �
 unfolding allTasks
 tasks-by before n = rw sub-zero (next _ _ n)
 
+-- parts joined from the left are joined from the right
 assoc : {A B C : Type 0} (x : Result A) (f : A → Parser B) (g : B → Parser C) (s : List ℕ) → andThen (andThen x f s) g s ≡ andThen x (λ a. _>>=_ (f a) g) s
 assoc (got a at) f g s = refl
 assoc (away reason place) f g s = refl
 
+-- the tasks were read into the empty arrays, and nothing is behind them
 pub numbers-by : {bytes : List ℕ} {mid to : Step} {t : Table} → Reads bytes (stepAt 0 0) (allTasks emptyArrays) mid t → Reads bytes mid nothingBehind to tt
     → readTo to t ≡ numbers bytes 0
 unfolding numbers empty allTasks

@@ -1,4 +1,4 @@
--- The first bytes decide how a longer byte string is read: 2,405 of them (specs/Sizes: `deciding`). Assumes nothing.
+-- The first bytes decide how a longer byte string is read: as many as specs/Sizes says (`deciding`). Assumes nothing.
 use Prim.Native.Nat.{ℕ, zero, suc, _+_, _-_, _*_, _^_, _≤_, _<_}
 use mathlib.Core.Path.{_≡_, refl, sym, subst}
 use mathlib.Core.List.{List, [], _∷_}
@@ -56,7 +56,7 @@ shape (suc left) longer s p h = rw (lt-leb (length s) p (omega arith)) (go (leb 
     go true ih = front longer (getD s p 0 - 128) p (groups left true s (p + 1)) ih
     go false ih = last-byte longer p (getD s p 0) (eqb (getD s p 0) 0) refl
 
--- ranges of numbers below 128 ^ 4
+-- ranges of numbers that have at most `numberLong` bytes
 short : List FromTo → Bool
 short [] = true
 short (range ∷ ranges) = ltb (range .most) (128 ^ numberLong) && short ranges
@@ -143,7 +143,7 @@ module _ (size : ℕ) (s r : List ℕ) (pre : Prefix size s r) where
       then-alike (p k t s at) (p k t r at) _ (at + part) (at + part * suc left) (one k t at (omega arith))
       (λ t′ next e l. further (omega arith) (each-alike part p one left (k + 1) t′ next (omega arith)))
 
-  -- numbers of at most four bytes each, one behind the other
+  -- numbers of at most `numberLong` bytes each, one behind the other
   in-order-alike : (ranges : List FromTo) → short ranges ≡ true → (at : ℕ) → at + numberLong * length ranges + 4 ≤ size
       → Alike (numbersIn ranges s at) (numbersIn ranges r at) (at + numberLong * length ranges)
   unfolding numbersIn short

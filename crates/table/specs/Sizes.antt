@@ -19,6 +19,6 @@ taskLong = 5 + 5 + 1 + phasesMost * phaseLong
 abbrev pub tableLong : ℕ
 tableLong = 1 + tasksMost * taskLong
 
--- what decides: eight bytes may be looked at where the last number of a phase is due, four more than it has
+-- what decides: where the last number of a phase is due, eight bytes may be looked at, four more than it has
 abbrev pub deciding : ℕ
 deciding = tableLong + 4

@@ -37,6 +37,7 @@ pub record Reads {A : Type 0} (bytes : List ℕ) (from : Step) (p : Parser A) (t
 pub record Leaves {A : Type 0} (bytes : List ℕ) (from : Step) (p : Parser A) (to : Step) (q : Parser A) : Type 0 where
   pub is : readFrom from p bytes ≡ readFrom to q bytes
 
+-- a step, by its reason and its place
 abbrev pub stepAt : (reason place : ℕ) → Step
 stepAt reason place = record { reason = reason; place = place }
 
