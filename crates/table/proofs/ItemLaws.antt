@@ -22,6 +22,7 @@ use Rattle.table.specs.declared.Reading.{Reading}
 use Rattle.table.specs.declared.ReadOutcome.the-variants.{TurnedAway as NotRead}
 use Rattle.table.specs.declared.items.Found.{Found}
 use Rattle.table.specs.declared.items.Found.the-variants.{Value as IsNumber, Away as NoNumber}
+use Rattle.table.specs.declared.items.NumberRead.{NumberRead}
 use Rattle.table.specs.declared.items.Step.{Step}
 use Rattle.table.specs.Parse.{Result, got, away, Parser, andThen, _>>=_, _>>_, done, tested, numberIn, numbersIn, each, phase, task, nothingBehind, numbers, table, empty, withPhase, withTask, parsedOf, limitOf, readingOf}
 use Rattle.table.specs.Steps.{readTo, readOf, stepAt, allTasks, limitedBy, Reads, Leaves, Ranged, NumberFrom, PhasesFrom, EndFrom}
@@ -76,9 +77,10 @@ module _ (bytes : List ℕ) (from : Step) (least most : ℕ) (z : from .reason �
   found-malformed e n = found-by Malformed e (rw n) (rw n (omega arith))
 
 -- what was found, as a number that was read
-pub number-of : {bytes : List ℕ} {from : Step} {least most : ℕ} {r : Found} → NumberFrom bytes from least most (readOf r) → (y : Found) → r ≡ y
-    → NumberFrom bytes from least most (readOf y)
-number-of {bytes} {from} {least} {most} n y e = subst (λ (f : Found). NumberFrom bytes from least most (readOf f)) e n
+pub number-of : {bytes : List ℕ} {from : Step} {least most : ℕ} {r : NumberRead} → NumberFrom bytes from least most r → {step : Step} {value : ℕ}
+    → step ≡ r .step → value ≡ r .value → NumberFrom bytes from least most (record { step = step; value = value })
+number-of {bytes} {from} {least} {most} n es ev =
+    subst (NumberFrom bytes from least most) (λ k. record { step = sym es k; value = sym ev k }) n
 
 -- ---- a phase, a task
 

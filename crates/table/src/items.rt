@@ -2,6 +2,7 @@
 // Every function goes on from a step; from one that turned the table away it gives that back, so that only `found_at` and `end` ask.
 use crate::Table;
 use groups::Number;
+ghost use mathlib.Core.Path.{_≡_};
 ghost use Prim.Native.Nat.{_≤_};
 ghost use Rattle.model.specs.Arrays.{arraysAs, withPhases};
 ghost use Rattle.table.specs.Steps.{EndFrom, HeadFrom, NumberFrom, Ranged, readOf, PhasesFrom, TasksFrom};
@@ -64,20 +65,26 @@ fn found_at(bytes: &[u8], step: Step, least: u64, most: u64) -> Found
     }
 }
 
-// The number from `least` to `most` that is due at a step.
+// The step behind what was found: the place behind a number, or the reason and the place for turning the table away.
+fn step_behind(found: Found) -> Step
+    ensures { λ r. ⌜ r ≡ readOf found .step ⌝ }
+{
+    match found {
+        Found::Value(_, place) => Step { reason: 0, place },
+        Found::Away(reason, place) => Step { reason, place },
+    }
+}
+
+// The number from `least` to `most` that is due at a step. Where there is none, its reason and place are passed on.
 fn number(bytes: &[u8], step: Step, least: u64, most: u64) -> NumberRead
     ensures { λ r. ⌜ NumberFrom (now (bytes .entry)) step least most r ⌝ }
 {
-    match found_at(bytes, step, least, most) {
-        Found::Value(value, place) => NumberRead {
-            step: Step { reason: 0, place },
-            value,
-        },
-        Found::Away(reason, place) => NumberRead {
-            step: Step { reason, place },
-            value: 0,
-        },
-    }
+    let found = found_at(bytes, step, least, most);
+    let step = step_behind(found);
+    let Found::Value(value, _) = found else {
+        return NumberRead { step, value: 0 };
+    };
+    NumberRead { step, value }
 }
 
 // The numbers of a task: T, D, the number of phases.
