@@ -14,14 +14,14 @@ pub fn lesser(a: u64, b: u64) -> u64
 }
 
 // Each task waits for its first deadline.
-pub fn first_deadlines(d: &[u32; 32]) -> [u64; 32]
-    requires { ⌜ length (now d) ≡ 32 ⌝ }
-    ensures { λ r. ⌜ r ≡ now (d .entry) ⌝ }
+pub fn first_deadlines(deadline: &[u32; 32]) -> [u64; 32]
+    requires { ⌜ length (now deadline) ≡ 32 ⌝ }
+    ensures { λ r. ⌜ r ≡ now (deadline .entry) ⌝ }
 {
     let mut next = [0u64; 32];
     let mut i: usize = 0;
     while i < 32 {
-        next[i] = wide(d[i]);
+        next[i] = wide(deadline[i]);
         i += 1;
     }
     next

@@ -11,23 +11,23 @@ ghost use Rattle.finite.specs.Finite.{Below};
 ghost use Rattle.model.specs.Ranges.{phasesMost};
 ghost use Rattle.pieces.specs.Held.{phasesIn};
 ghost use Rattle.walk.specs.Stuck.{BeforeStop, FirstWhere, PointJudged, Stuck};
-ghost use Rattle.walk.specs.Take.{arraysIn};
+ghost use Rattle.walk.specs.Take.{arraysAs};
 
 // The first phase of task i that has no room in the margin, or the number of its phases where there is none.
 fn lacking<'a>(
     i: usize,
     margin: u64,
-    m: &'a [u32; 32],
-    c: &'a [u32; 256],
-    q: &'a [u32; 256],
+    phases: &'a [u32; 32],
+    work: &'a [u32; 256],
+    cost: &'a [u32; 256],
 ) -> usize
-    requires { ⌜ (i < 32) × (getD (now m) i 0 ≤ phasesMost) ⌝ }
-    ensures { λ r. ⌜ FirstWhere (getD (now (m .entry)) i 0) (λ j. phasesIn (now (c .entry)) (now (q .entry)) .room i j margin ≡ false) r ⌝ }
+    requires { ⌜ (i < 32) × (getD (now phases) i 0 ≤ phasesMost) ⌝ }
+    ensures { λ r. ⌜ FirstWhere (getD (now (phases .entry)) i 0) (λ j. phasesIn (now (work .entry)) (now (cost .entry)) .room i j margin ≡ false) r ⌝ }
 {
-    let many = size(m[i]);
+    let many = size(phases[i]);
     let mut j: usize = 0;
     while j < many {
-        if room_at(i, j, margin, c, q) {
+        if room_at(i, j, margin, work, cost) {
             j += 1;
         } else {
             return j;
@@ -41,18 +41,18 @@ fn stuck_phase<'a>(
     i: usize,
     t: u64,
     margin: u64,
-    d: &'a [u32; 32],
-    m: &'a [u32; 32],
-    c: &'a [u32; 256],
-    q: &'a [u32; 256],
+    deadline: &'a [u32; 32],
+    phases: &'a [u32; 32],
+    work: &'a [u32; 256],
+    cost: &'a [u32; 256],
 ) -> usize
-    requires { ⌜ (i < 32) × (getD (now m) i 0 ≤ phasesMost) ⌝ }
-    ensures { λ r. ⌜ FirstWhere (getD (now (m .entry)) i 0) (Stuck (arraysIn 0 [] (now (d .entry)) (now (m .entry)) (now (c .entry)) (now (q .entry))) t margin i) r ⌝ }
+    requires { ⌜ (i < 32) × (getD (now phases) i 0 ≤ phasesMost) ⌝ }
+    ensures { λ r. ⌜ FirstWhere (getD (now (phases .entry)) i 0) (Stuck (arraysAs 0 [] (now (deadline .entry)) (now (phases .entry)) (now (work .entry)) (now (cost .entry))) t margin i) r ⌝ }
 {
-    if wide(d[i]) <= t {
-        return size(m[i]);
+    if wide(deadline[i]) <= t {
+        return size(phases[i]);
     }
-    lacking(i, margin, m, c, q)
+    lacking(i, margin, phases, work, cost)
 }
 
 // Whether the walk stops, and the blocked task and phase, numbered from 1, or 0 and 0.
@@ -67,19 +67,19 @@ fn first_stuck<'a>(
     n: usize,
     t: u64,
     demand: u64,
-    d: &'a [u32; 32],
-    m: &'a [u32; 32],
-    c: &'a [u32; 256],
-    q: &'a [u32; 256],
+    deadline: &'a [u32; 32],
+    phases: &'a [u32; 32],
+    work: &'a [u32; 256],
+    cost: &'a [u32; 256],
 ) -> Stop
-    requires { ⌜ (demand ≤ t) × (n ≤ 32) × Below n (λ i. getD (now m) i 0 ≤ phasesMost) ⌝ }
-    ensures { λ r. ⌜ PointJudged (arraysIn n [] (now (d .entry)) (now (m .entry)) (now (c .entry)) (now (q .entry))) t demand (r .stops) (r .task) (r .phase) ⌝ }
+    requires { ⌜ (demand ≤ t) × (n ≤ 32) × Below n (λ i. getD (now phases) i 0 ≤ phasesMost) ⌝ }
+    ensures { λ r. ⌜ PointJudged (arraysAs n [] (now (deadline .entry)) (now (phases .entry)) (now (work .entry)) (now (cost .entry))) t demand (r .stops) (r .task) (r .phase) ⌝ }
 {
     let margin = t - demand;
     let mut i: usize = 0;
     while i < n {
-        let j = stuck_phase(i, t, margin, d, m, c, q);
-        if j < size(m[i]) {
+        let j = stuck_phase(i, t, margin, deadline, phases, work, cost);
+        if j < size(phases[i]) {
             return Stop {
                 stops: true,
                 task: i + 1,
@@ -101,13 +101,13 @@ pub fn judge_point<'a>(
     t: u64,
     demand: u64,
     low: u64,
-    d: &'a [u32; 32],
-    m: &'a [u32; 32],
-    c: &'a [u32; 256],
-    q: &'a [u32; 256],
+    deadline: &'a [u32; 32],
+    phases: &'a [u32; 32],
+    work: &'a [u32; 256],
+    cost: &'a [u32; 256],
 ) -> Stop
-    requires { ⌜ BeforeStop (arraysIn n [] (now d) (now m) (now c) (now q)) t demand low ⌝ }
-    ensures { λ r. ⌜ PointJudged (arraysIn n [] (now (d .entry)) (now (m .entry)) (now (c .entry)) (now (q .entry))) t demand (r .stops) (r .task) (r .phase) ⌝ }
+    requires { ⌜ BeforeStop (arraysAs n [] (now deadline) (now phases) (now work) (now cost)) t demand low ⌝ }
+    ensures { λ r. ⌜ PointJudged (arraysAs n [] (now (deadline .entry)) (now (phases .entry)) (now (work .entry)) (now (cost .entry))) t demand (r .stops) (r .task) (r .phase) ⌝ }
 {
     if t < demand {
         return Stop {
@@ -123,5 +123,5 @@ pub fn judge_point<'a>(
             phase: 0,
         };
     }
-    first_stuck(n, t, demand, d, m, c, q)
+    first_stuck(n, t, demand, deadline, phases, work, cost)
 }

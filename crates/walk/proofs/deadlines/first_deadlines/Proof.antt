@@ -10,10 +10,10 @@ use Rattle.walk.proofs.deadlines.first_deadlines.Statement.{statement}
 use Rattle.walk.proofs.deadlines.first_deadlines.Tie as tie
 
 abbrev Inv-loop : tie.InvT-loop
-Inv-loop d next₀ i₀ next i = (i ≤ 32) × (length d ≡ 32) × (length next₀ ≡ 32) × (next ≡ filled i (λ k. getD d k 0) next₀)
+Inv-loop deadline next₀ i₀ next i = (i ≤ 32) × (length deadline ≡ 32) × (length next₀ ≡ 32) × (next ≡ filled i (λ k. getD deadline k 0) next₀)
 
 abbrev μ-loop : tie.MeasureT-loop
-μ-loop d next₀ i₀ next i = 32 - i
+μ-loop deadline next₀ i₀ next i = 32 - i
 
 loop-holds : tie.Need-loop-holds Inv-loop μ-loop
 loop-holds c = (omega arith, c .pre, refl, filled-none _ _)

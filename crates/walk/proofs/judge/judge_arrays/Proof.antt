@@ -3,14 +3,14 @@
 use Rattle.model.specs.Arrays.{Arrays}
 use Rattle.walk.specs.End.{EndAccepted}
 use Rattle.walk.specs.Judge.{accepts, refuses}
-use Rattle.walk.specs.Take.{arraysIn}
+use Rattle.walk.specs.Take.{arraysAs}
 use Rattle.walk.proofs.Meaning.{accepted-is, in-pieces, is-accepted, is-refused, refused-is, roomy}
 use Rattle.walk.proofs.judge.judge_arrays.Statement.{statement}
 use Rattle.walk.proofs.judge.judge_arrays.Tie as tie
 
 -- the arrays of the call
 abbrev arrays : tie.Start → Arrays
-arrays c = arraysIn (c .args .n) (c .args .ts .now) (c .args .d .now) (c .args .m .now) (c .args .c .now) (c .args .q .now)
+arrays c = arraysAs (c .args .n) (c .args .spacing .now) (c .args .deadline .now) (c .args .phases .now) (c .args .work .now) (c .args .cost .now)
 
 -- the place of the call, and the walk's end, from where it accepted
 abbrev entry : tie.Then1 → tie.Start

@@ -8,16 +8,16 @@ use mathlib.Core.Path.{_≡_, refl}
 use native.Mathlib.Omega.{arith}
 use Rattle.finite.specs.Finite.{Below}
 use Rattle.walk.specs.Stuck.{StuckTask}
-use Rattle.walk.specs.Take.{arraysIn}
+use Rattle.walk.specs.Take.{arraysAs}
 use Rattle.walk.specs.laws.Stuck.{Searching, goes-free, none-found, searching-more, searching-none, stops-blocked, stuck-found, stuck-nowhere}
 use Rattle.walk.proofs.stuck.first_stuck.Statement.{statement}
 use Rattle.walk.proofs.stuck.first_stuck.Tie as tie
 
 abbrev Inv-loop : tie.InvT-loop
-Inv-loop n t demand d m c q margin i₀ i = (demand ≤ t) × (n ≤ 32) × Below n (λ k. getD m k 0 ≤ 8) × (margin ≡ t - demand) × Searching n (StuckTask (arraysIn n [] d m c q) t margin) i
+Inv-loop n t demand deadline phases work cost margin i₀ i = (demand ≤ t) × (n ≤ 32) × Below n (λ k. getD phases k 0 ≤ 8) × (margin ≡ t - demand) × Searching n (StuckTask (arraysAs n [] deadline phases work cost) t margin) i
 
 abbrev μ-loop : tie.MeasureT-loop
-μ-loop n t demand d m c q margin i₀ i = n - i
+μ-loop n t demand deadline phases work cost margin i₀ i = n - i
 
 sub-margin : tie.Need-sub-margin Inv-loop μ-loop
 sub-margin c = search needs

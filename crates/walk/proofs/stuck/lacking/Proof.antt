@@ -12,10 +12,10 @@ use Rattle.walk.proofs.stuck.lacking.Statement.{statement}
 use Rattle.walk.proofs.stuck.lacking.Tie as tie
 
 abbrev Inv-loop : tie.InvT-loop
-Inv-loop i margin m c q many j₀ j = (many ≡ getD m i 0) × Searching (getD m i 0) (λ k. phasesIn c q .room i k margin ≡ false) j
+Inv-loop i margin phases work cost many j₀ j = (many ≡ getD phases i 0) × Searching (getD phases i 0) (λ k. phasesIn work cost .room i k margin ≡ false) j
 
 abbrev μ-loop : tie.MeasureT-loop
-μ-loop i margin m c q many j₀ j = many - j
+μ-loop i margin phases work cost many j₀ j = many - j
 
 mul-size : tie.Need-mul-size Inv-loop μ-loop
 mul-size c = search needs
