@@ -2,13 +2,15 @@
 -- them: what stands here changes where they are kept in another form.
 -- Assumes nothing.
 use mathlib.Core.Path.{_≡_}
+use mathlib.Core.Bool.{false}
 use mathlib.Core.List.{List}
 use Prim.Native.Nat.{ℕ, _+_, _*_, _≤_, _<_}
 use lib.ListN.{length, getD}
 use lib.Dec.{eqb}
+use Rattle.finite.specs.Finite.{Below}
 use Rattle.finite.specs.If.{if_then_else_}
-use Rattle.model.specs.Arrays.{Arrays}
-use Rattle.model.specs.Ranges.{horizonMost, spacingMost}
+use Rattle.model.specs.Limits.{horizonMost, spacingMost, tasksMost}
+use Rattle.walk.specs.Masks.{bit}
 
 -- what a next deadline may be while points up to the horizon are taken
 abbrev pub nextMost : ℕ
@@ -25,15 +27,34 @@ pub record Mapped (n : ℕ) (f : ℕ → ℕ → ℕ) (before after : List ℕ) 
   pub beyond : (i : ℕ) → n ≤ i → getD after i 0 ≡ getD before i 0
 
 -- the next deadline of task i after the point t: moved on by its spacing where it was t
-abbrev pub nextAt : Arrays → ℕ → ℕ → ℕ → ℕ
-nextAt a t i v = if eqb v t then t + getD (a .spacing) i 0 else v
+abbrev pub nextAt : List ℕ → ℕ → ℕ → ℕ → ℕ
+nextAt spacing t i v = if eqb v t then t + getD spacing i 0 else v
 
 -- t is the least of the first n numbers of xs
 pub record Earliest (n : ℕ) (xs : List ℕ) (t : ℕ) : Type 0 where
   pub below : (i : ℕ) → i < n → t ≤ getD xs i 0
   pub met : (i : ℕ) × (i < n) × (getD xs i 0 ≡ t)
 
--- the point t is passed: every task that was due has moved on, and `soonest` is the next point
-pub record DeadlinesMoved (a : Arrays) (t : ℕ) (nx nx′ : List ℕ) (soonest : ℕ) : Type 0 where
-  pub each : Mapped (a .tasks) (nextAt a t) nx nx′
-  pub earliest : Earliest (a .tasks) nx′ soonest
+-- every task that was due at t has moved on, and `soonest` is the next point
+pub record DeadlinesMoved (n t : ℕ) (spacing next next′ : List ℕ) (soonest : ℕ) : Type 0 where
+  pub each : Mapped n (nextAt spacing t) next next′
+  pub earliest : Earliest n next′ soonest
+
+-- the tasks of the mask are those that are due at t: their next deadline is t
+pub record DueAt (n t : ℕ) (next : List ℕ) (mask : ℕ) : Type 0 where
+  pub each : Below n (λ i. bit mask i ≡ eqb (getD next i 0) t)
+  pub beyond : (i : ℕ) → n ≤ i → bit mask i ≡ false
+
+-- what is asked before the point t is passed
+pub record BeforePass (n t : ℕ) (spacing next : List ℕ) : Type 0 where
+  pub some : 0 < n
+  pub few : n ≤ tasksMost
+  pub point : t ≤ horizonMost
+  pub wide : length next ≡ 32
+  pub short : Below n (λ i. getD spacing i 0 ≤ spacingMost)
+  pub near : Below n (λ i. getD next i 0 ≤ nextMost)
+
+-- it is passed: the next deadlines after it, who was due, and the next point
+pub record PointPassed (n t : ℕ) (spacing next next′ : List ℕ) (mask soonest : ℕ) : Type 0 where
+  pub moved : DeadlinesMoved n t spacing next next′ soonest
+  pub due : DueAt n t next mask

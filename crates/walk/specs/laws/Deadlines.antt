@@ -1,20 +1,24 @@
--- How an array is passed place by place, and the least of it with it.
+-- How an array is passed place by place, the least of it with it, and the mask of the tasks that are due.
 -- Assumes nothing.
 use mathlib.Core.Path.{_≡_, refl, sym, ap, _∙_}
 use mathlib.Core.Bool.{cond, Bool, true, false}
 use mathlib.Core.List.{List}
 use mathlib.Core.Logic.{⊎-elim}
-use Prim.Native.Nat.{ℕ, _+_, _≤_, _<_, min}
-use native.Mathlib.Nat.{min-eq-left}
+use Prim.Native.Nat.{ℕ, _+_, _^_, _≤_, _<_, min}
+use native.Mathlib.Nat.{lt-of-lt-of-le, min-eq-left}
 use native.Mathlib.Omega.{arith}
-use lib.Dec.{eqb}
+use lib.Dec.{eqb, lit<}
 use lib.ListN.{length, getD, set, length-set}
+use lib.Pow.{pow-mono}
 use lib.Seq.{getD-set-same, getD-set-other}
 use borrow.Author.Count.{below-more}
 use borrow.Author.Tests.{eqb-true, eqb-false, eq-eqb, ne-eqb}
 use Rattle.finite.specs.laws.Tests.{le-or-lt}
-use Rattle.model.specs.Arrays.{Arrays}
-use Rattle.walk.specs.Deadlines.{DeadlinesMoved, Earliest, Mapped, beyondAll, nextAt}
+use Rattle.finite.specs.Finite.{Below}
+use Rattle.model.specs.Limits.{horizonMost, tasksMost}
+use Rattle.walk.specs.Deadlines.{BeforePass, Earliest, Mapped, PointPassed, beyondAll, nextAt}
+use Rattle.walk.specs.Masks.{BitPut, bit}
+use Rattle.walk.specs.laws.Masks.{bit-beyond}
 
 -- which of two numbers a test picks
 pub cond-cases : (P : ℕ → Type 0) (x y a b : ℕ) → (x ≡ y → P a) → ((x ≡ y → ⊥) → P b) → P (cond (eqb x y) a b)
@@ -92,33 +96,70 @@ under-more bound i s v xs ys m old e =
 under-all : (bound n s : ℕ) (xs : List ℕ) → 0 < n → getD xs 0 0 < bound → EarliestUnder bound n xs s → Earliest n xs s
 under-all bound n s xs some near m = record { below = m .below; met = m .met (omega (arith, m .below 0 some)) }
 
--- ---- a point is passed: the first i tasks
+-- ---- a point is passed
 
-pub record Moving (a : Arrays) (t : ℕ) (nx : List ℕ) (i : ℕ) (nx′ : List ℕ) (soonest : ℕ) : Type 0 where
-  pub each : Mapped i (nextAt a t) nx nx′
-  pub least : EarliestUnder beyondAll i nx′ soonest
+-- what the loop over the tasks keeps: the first i have moved on
+pub record MovingOn (n t : ℕ) (spacing next : List ℕ) (i : ℕ) (next′ : List ℕ) (mask soonest : ℕ) : Type 0 where
+  pub ready : BeforePass n t spacing next
+  pub so-far : i ≤ n
+  pub each : Mapped i (nextAt spacing t) next next′
+  pub least : EarliestUnder beyondAll i next′ soonest
+  pub due : Below i (λ k. bit mask k ≡ eqb (getD next k 0) t)
+  pub small : mask < 2 ^ i
 
-pub moving-none : (a : Arrays) (t : ℕ) (nx : List ℕ) → Moving a t nx 0 nx beyondAll
-moving-none a t nx = record { each = mapped-none _ nx; least = under-none _ nx }
+pub moving-none : {n t : ℕ} {spacing next : List ℕ} → BeforePass n t spacing next → MovingOn n t spacing next 0 next 0 beyondAll
+moving-none {n} {t} {spacing} {next} r =
+    record { ready = r; so-far = omega arith; each = mapped-none _ next; least = under-none _ next; due = λ k l. absurd (omega arith); small = lit< tt }
 
-module _ {a : Arrays} {t : ℕ} {nx : List ℕ} {i : ℕ} {nx′ : List ℕ} {soonest : ℕ} (k : Moving a t nx i nx′ soonest) where
+module _ {n t : ℕ} {spacing next : List ℕ} {i : ℕ} {next′ : List ℕ} {mask soonest : ℕ} (k : MovingOn n t spacing next i next′ mask soonest) where
+  -- what is asked of task i
+  pub moving-near : i < n → (i < tasksMost) × (t ≤ horizonMost)
+  moving-near l = (omega (arith, k .ready .few), k .ready .point)
+
+  pub moving-mark : i < n → (i < tasksMost) × (mask < 2 ^ i)
+  moving-mark l = (omega (arith, k .ready .few), k .small)
+
+  old : getD next′ i 0 ≡ getD next i 0
+  old = k .each .beyond i (omega arith)
+
   -- task i is due
-  pub moving-due : {nx″ : List ℕ} {s : ℕ} → i < length nx′ → getD nx′ i 0 ≡ t → nx″ ≡ set nx′ i (t + getD (a .spacing) i 0) → s ≡ min soonest (t + getD (a .spacing) i 0)
-      → Moving a t nx (i + 1) nx″ s
-  moving-due {nx″} {s} l now en es =
-      let later : ℕ = t + getD (a .spacing) i 0 in
+  pub moving-due : i < n → {next″ : List ℕ} {mask′ soonest′ : ℕ} → getD next′ i 0 ≡ t → next″ ≡ set next′ i (t + getD spacing i 0) → soonest′ ≡ min soonest (t + getD spacing i 0)
+      → BitPut i true mask mask′ × (mask′ < 2 ^ (i + 1)) → MovingOn n t spacing next (i + 1) next″ mask′ soonest′
+  moving-due l {next″} {mask′} {soonest′} now en es em =
+      let later : ℕ = t + getD spacing i 0 in
+      let wide : i < length next′ = omega (arith, k .ready .few, k .ready .wide, k .each .same) in
       record {
-        each = rw en (mapped-more i _ _ _ _ l (k .each) (simp (eq-eqb _ _ now)));
-        least = rw (es, en) (under-more _ _ _ later nx′ (set nx′ i later) (k .least) (λ j jl. getD-set-other nx′ i j later 0 (omega arith)) (sym (getD-set-same nx′ i later 0 l)));
+        ready = k .ready;
+        so-far = omega arith;
+        each = rw en (mapped-more i _ _ _ _ wide (k .each) (simp (eq-eqb _ _ now)));
+        least = rw (es, en) (under-more _ _ _ later next′ (set next′ i later) (k .least) (λ j jl. getD-set-other next′ i j later 0 (omega arith)) (sym (getD-set-same next′ i later 0 wide)));
+        due = below-more (λ j. bit mask′ j ≡ eqb (getD next j 0) t) i (λ j jl. em .0 .elsewhere j (λ e. omega arith) ∙ k .due j jl) (em .0 .here ∙ sym (eq-eqb _ _ (sym old ∙ now)));
+        small = em .1;
       }
 
   -- task i is not due
-  pub moving-skip : {s : ℕ} → (getD nx′ i 0 ≡ t → ⊥) → s ≡ min soonest (getD nx′ i 0) → Moving a t nx (i + 1) nx′ s
-  moving-skip later es =
+  pub moving-skip : i < n → {soonest′ : ℕ} → (getD next′ i 0 ≡ t → ⊥) → soonest′ ≡ min soonest (getD next′ i 0) → MovingOn n t spacing next (i + 1) next′ mask soonest′
+  moving-skip l {soonest′} later es =
       record {
+        ready = k .ready;
+        so-far = omega arith;
         each = mapped-skip i _ _ _ (k .each) (rw (ne-eqb _ _ later));
-        least = rw es (under-more _ _ _ _ nx′ nx′ (k .least) (λ j jl. refl) refl);
+        least = rw es (under-more _ _ _ _ next′ next′ (k .least) (λ j jl. refl) refl);
+        due = below-more (λ j. bit mask j ≡ eqb (getD next j 0) t) i (k .due) (bit-beyond (k .small) i (omega arith) ∙ sym (ne-eqb _ _ (λ e. later (old ∙ e))));
+        small = lt-of-lt-of-le (k .small) (pow-mono {i = i} {j = i + 1} (omega arith));
       }
 
-pub moving-all : {a : Arrays} {t : ℕ} {nx nx′ : List ℕ} {soonest : ℕ} → Moving a t nx (a .tasks) nx′ soonest → 0 < a .tasks → getD nx′ 0 0 < beyondAll → DeadlinesMoved a t nx nx′ soonest
-moving-all k some near = record { each = k .each; earliest = under-all _ _ _ _ some near (k .least) }
+  -- the last task has moved on
+  pub moving-all : n ≤ i → PointPassed n t spacing next next′ mask soonest
+  moving-all le =
+      let r = k .ready in
+      let done : i ≡ n = omega (arith, k .so-far) in
+      let each : Mapped n (nextAt spacing t) next next′ = rw done at (k .each) in
+      let least : EarliestUnder beyondAll n next′ soonest = rw done at (k .least) in
+      let near : getD next′ 0 0 < beyondAll =
+      rw (each .below 0 (r .some))
+      (cond-cases (λ v. v < beyondAll) (getD next 0 0) t _ _ (λ e. omega (arith, r .point, r .short 0 (r .some))) (λ ne. omega (arith, r .near 0 (r .some)))) in
+      record {
+        moved = record { each = each; earliest = under-all _ _ _ _ (r .some) near least };
+        due = record { each = λ j jl. k .due j (omega arith); beyond = λ j jl. bit-beyond (k .small) j (omega arith) };
+      }
