@@ -1,4 +1,3 @@
 -- The definitions of this crate, and the laws beside them.
-pub mod Masks
 pub mod Rules
 pub mod laws

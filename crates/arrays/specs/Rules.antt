@@ -5,7 +5,7 @@ use mathlib.Core.List.{List}
 use Prim.Native.Nat.{ℕ, zero, suc, _+_, _-_, _*_}
 use lib.Dec.{leb, ltb, eqb}
 use lib.ListN.{getD}
-use Rattle.arrays.specs.Masks.{bit}
+use Rattle.finite.specs.Masks.{bit}
 use Rattle.model.specs.Phase.{pieceLength}
 use Rattle.arrays.specs.declared.rules.Due.{Due}
 

@@ -7,7 +7,7 @@ use crate::numbers::from_one;
 ghost use mathlib.Core.Path.{_≡_};
 ghost use Prim.Native.Nat.{_+_, _*_, _^_, _<_};
 ghost use lib.ListN.{length};
-ghost use Rattle.arrays.specs.Masks.{digit, maskOf};
+ghost use Rattle.finite.specs.Masks.{digit, maskOf};
 ghost use Rattle.arrays.specs.Rules.{entersOf, urgentOf, placeOf, ticksOf, dueOf};
 
 // The piece of a task (from 1; 0 for none) that runs or is next due: its phase and number, and how many of each there are.

@@ -4,7 +4,7 @@
 use mathlib.Core.Path.{_≡_}
 use mathlib.Core.Bool.{Bool, true}
 use Prim.Native.Nat.{ℕ}
-use Rattle.arrays.specs.Masks.{bit, maskOf}
+use Rattle.finite.specs.Masks.{bit, maskOf}
 use Rattle.records.specs.Ranges.{inRange}
 use Rattle.records.specs.Record.{countsIn, recordOf, stateIn, tasksIn}
 use Rattle.records.specs.declared.Dispatcher.{Dispatcher}

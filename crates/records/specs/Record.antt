@@ -6,7 +6,7 @@ use mathlib.Core.Bool.{Bool}
 use Prim.Native.Nat.{ℕ, _/_, _%_}
 use lib.Dec.{eqb}
 use lib.ListN.{getD, length, replicate}
-use Rattle.arrays.specs.Masks.{bit, digit}
+use Rattle.finite.specs.Masks.{bit, digit}
 use Rattle.finite.specs.Finite.{listTo}
 use Rattle.records.specs.declared.Dispatcher.{Dispatcher}
 use Rattle.model.specs.Arrays.{Arrays, Sized, asTasks, phaseAt}

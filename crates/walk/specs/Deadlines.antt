@@ -9,8 +9,8 @@ use lib.ListN.{length, getD}
 use lib.Dec.{eqb}
 use Rattle.finite.specs.Finite.{Below}
 use Rattle.finite.specs.If.{if_then_else_}
-use Rattle.model.specs.Limits.{horizonMost, spacingMost, tasksMost}
-use Rattle.walk.specs.Masks.{bit}
+use Rattle.model.specs.Ranges.{horizonMost, spacingMost, tasksMost}
+use Rattle.finite.specs.Masks.{bit}
 
 -- what a next deadline may be while points up to the horizon are taken
 abbrev pub nextMost : ℕ

@@ -2,14 +2,10 @@
 -- Assumes nothing.
 use mathlib.Core.Path.{_≡_}
 use mathlib.Core.Bool.{Bool, true, false}
-use Prim.Native.Nat.{ℕ, _/_, _%_, _^_, _<_}
+use Prim.Native.Nat.{ℕ, _<_}
 use lib.Count.{trailingZeros}
-use lib.Dec.{eqb}
-use Rattle.model.specs.Limits.{tasksMost}
-
--- bit i of a number, bit 0 the lowest
-abbrev pub bit : ℕ → ℕ → Bool
-bit m i = eqb (m / 2 ^ i % 2) 1
+use Rattle.finite.specs.Masks.{bit}
+use Rattle.model.specs.Ranges.{tasksMost}
 
 -- after is the mask before with b for its bit i
 pub record BitPut (i : ℕ) (b : Bool) (before after : ℕ) : Type 0 where

@@ -6,7 +6,7 @@ use table::Table;
 ghost use mathlib.Core.Path.{_≡_};
 ghost use Prim.Native.Nat.{_+_, _≤_, _<_, min};
 ghost use lib.ListN.{length, set};
-ghost use Rattle.model.specs.Limits.{horizonMost};
+ghost use Rattle.model.specs.Ranges.{horizonMost};
 ghost use Rattle.walk.specs.Deadlines.{BeforePass, Earliest, PointPassed};
 
 // The lesser of two.

@@ -2,7 +2,7 @@
 use pieces::numbers::size;
 ghost use mathlib.Core.Bool.{true};
 ghost use Prim.Native.Nat.{_+_, _^_, _<_};
-ghost use Rattle.model.specs.Limits.{tasksMost};
+ghost use Rattle.model.specs.Ranges.{tasksMost};
 ghost use Rattle.walk.specs.Masks.{BitPut, FirstOf, OthersOf};
 
 // The mask and task i, which comes after its tasks.

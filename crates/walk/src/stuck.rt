@@ -11,7 +11,7 @@ ghost use Rattle.finite.specs.Finite.{Below};
 ghost use Rattle.model.specs.Ranges.{phasesMost};
 ghost use Rattle.pieces.specs.Held.{phasesIn};
 ghost use Rattle.walk.specs.Stuck.{BeforeStop, FirstWhere, PointJudged, Stuck};
-ghost use Rattle.walk.specs.Take.{arraysAs};
+ghost use Rattle.model.specs.Arrays.{arraysAs};
 
 // The first phase of task i that has no room in the margin, or the number of its phases where there is none.
 fn lacking<'a>(

@@ -11,7 +11,7 @@ use lib.Dec.{eqb, lit<}
 use lib.Arith.{digits-lt}
 use lib.Pow.{high, low, field, mod-mod-pow, mod-pow-add, pow-mono, shl-exact}
 use lib.Count.{ones, onesIn, ones-cat}
-use Rattle.arrays.specs.Masks.{digit, bit, maskOf, countOf}
+use Rattle.finite.specs.Masks.{digit, bit, maskOf, countOf}
 use Rattle.finite.specs.laws.Lists.{last-or-below}
 
 digit-lt : (b : Bool) → digit b < 2

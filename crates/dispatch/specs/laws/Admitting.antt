@@ -4,7 +4,7 @@ use mathlib.Core.Path.{_≡_, refl, sym, ap, _∙_}
 use mathlib.Core.Bool.{Bool, true, false, _||_}
 use Prim.Native.Nat.{ℕ, _+_, _<_}
 use lib.ListN.{getD, set}
-use Rattle.arrays.specs.Masks.{bit, digit, maskOf}
+use Rattle.finite.specs.Masks.{bit, digit, maskOf}
 use Rattle.arrays.specs.Rules as array
 use Rattle.arrays.specs.laws.Masks.{bit-maskOf}
 use Rattle.finite.specs.laws.Lists.{filled-more}

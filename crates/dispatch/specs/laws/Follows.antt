@@ -5,7 +5,7 @@ use mathlib.Core.Bool.{Bool, true, not, _&&_, and-eq-true-iff}
 use Prim.Native.Nat.{ℕ, _+_, _-_, _^_, _≤_, _<_}
 use native.Mathlib.Omega.{arith}
 use lib.Count.{ones}
-use Rattle.arrays.specs.Masks.{bit, countOf, maskOf}
+use Rattle.finite.specs.Masks.{bit, countOf, maskOf}
 use Rattle.arrays.specs.laws.Masks.{asked-split, maskOf-alike, ones-maskOf}
 use Rattle.model.specs.Phase.{Choice}
 use Rattle.model.specs.Tasks.{Tasks}

@@ -7,7 +7,7 @@ use native.Mathlib.Numerals.{add-one}
 use native.Mathlib.Omega.{arith}
 use lib.ListN.{getD}
 use lib.Seq.{set-getD}
-use Rattle.arrays.specs.Masks.{digit}
+use Rattle.finite.specs.Masks.{digit}
 use Rattle.finite.specs.Finite.{listTo}
 use Rattle.finite.specs.laws.Lists.{filled, filled-all, filled-rest, getD-list}
 use Rattle.records.specs.Record.{stateIn}

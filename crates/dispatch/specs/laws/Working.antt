@@ -10,7 +10,7 @@ use lib.Dec.{eqb, leb, ltb, eqb·suc-zero}
 use lib.ListN.{getD, length-set, set}
 use borrow.Author.Tests.{le-ltb, lt-ltb, ne-eqb}
 use lib.Seq.{ext-getD, getD-set-other, getD-set-same}
-use Rattle.arrays.specs.Masks.{digit}
+use Rattle.finite.specs.Masks.{digit}
 use Rattle.arrays.specs.Rules.{dueOf}
 use Rattle.arrays.specs.declared.rules.Due.{Due}
 use Rattle.finite.specs.Finite.{listTo}

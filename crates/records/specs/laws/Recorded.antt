@@ -3,7 +3,7 @@
 use mathlib.Core.Path.{_≡_, sym, ap, ap₂, _∙_, subst, subst₂}
 use mathlib.Core.Bool.{true}
 use Prim.Native.Nat.{ℕ, _/_, _%_}
-use Rattle.arrays.specs.Masks.{digit}
+use Rattle.finite.specs.Masks.{digit}
 use Rattle.finite.specs.laws.Lists.{length-list}
 use Rattle.finite.specs.laws.Tests.{cond-true}
 use Rattle.model.specs.Phase.{Choice}

@@ -22,7 +22,8 @@ use Rattle.pieces.specs.laws.Sums.{sum-most}
 use Rattle.pieces.specs.laws.Task.{budget-most}
 use Rattle.walk.specs.Budgets.{AddedUp, BeforeSum, Settles, addedMost, budgetAt, cutAt, leastBudget, settled, whereDue}
 use Rattle.walk.specs.Deadlines.{Mapped}
-use Rattle.walk.specs.Masks.{BitPut, FirstOf, OthersOf, bit}
+use Rattle.walk.specs.Masks.{BitPut, FirstOf, OthersOf}
+use Rattle.finite.specs.Masks.{bit}
 use Rattle.walk.specs.laws.Deadlines.{cond-cases}
 use Rattle.walk.specs.laws.Masks.{bit-none}
 use Rattle.walk.specs.laws.Stuck.{not-both}

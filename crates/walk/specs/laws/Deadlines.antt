@@ -15,9 +15,10 @@ use borrow.Author.Count.{below-more}
 use borrow.Author.Tests.{eqb-true, eqb-false, eq-eqb, ne-eqb}
 use Rattle.finite.specs.laws.Tests.{le-or-lt}
 use Rattle.finite.specs.Finite.{Below}
-use Rattle.model.specs.Limits.{horizonMost, tasksMost}
+use Rattle.model.specs.Ranges.{horizonMost, tasksMost}
 use Rattle.walk.specs.Deadlines.{BeforePass, Earliest, Mapped, PointPassed, beyondAll, nextAt}
-use Rattle.walk.specs.Masks.{BitPut, bit}
+use Rattle.walk.specs.Masks.{BitPut}
+use Rattle.finite.specs.Masks.{bit}
 use Rattle.walk.specs.laws.Masks.{bit-beyond}
 
 -- which of two numbers a test picks

@@ -13,8 +13,9 @@ use lib.Count.{trailingZeros, under}
 use lib.Dec.{eqb, lit<}
 use lib.Pow.{field, high, low, mod-mod-pow, pow-mono, shl-exact, shr-shr}
 use Rattle.finite.specs.laws.Tests.{le-or-lt}
-use Rattle.model.specs.Limits.{tasksMost}
-use Rattle.walk.specs.Masks.{BitPut, FirstOf, OthersOf, bit, lowest}
+use Rattle.model.specs.Ranges.{tasksMost}
+use Rattle.walk.specs.Masks.{BitPut, FirstOf, OthersOf, lowest}
+use Rattle.finite.specs.Masks.{bit}
 
 -- ---- bits
 

@@ -2,7 +2,7 @@
 use mathlib.Core.Path.{_≡_}
 use Prim.Native.Nat.{_-_, _≤_}
 use native.Mathlib.Omega.{arith}
-use Rattle.arrays.specs.Masks.{maskOf}
+use Rattle.finite.specs.Masks.{maskOf}
 use Rattle.arrays.specs.Rules.{entersOf}
 use Rattle.arrays.specs.laws.Masks.{maskOf-lt, maskOf-more, maskOf-none}
 use borrow.Author.Needs.{needs}

@@ -5,7 +5,7 @@ use mathlib.Core.Logic.{⊎-elim}
 use Prim.Native.Nat.{_-_, _≤_}
 use native.Mathlib.Omega.{arith}
 use borrow.Author.Tests.{eq-eqb, ne-eqb}
-use Rattle.arrays.specs.Masks.{bit, maskOf}
+use Rattle.finite.specs.Masks.{bit, maskOf}
 use Rattle.promise.specs.Rules.{letsIn}
 use Rattle.records.specs.Ranges.{inRange}
 use Rattle.records.specs.Record.{stateIn, tasksIn}

@@ -1,9 +1,8 @@
 -- `judge_arrays` meets its contract: the walk, the counts and the longest pieces, put together.
 -- Assumes nothing.
-use Rattle.model.specs.Arrays.{Arrays}
+use Rattle.model.specs.Arrays.{Arrays, arraysAs}
 use Rattle.walk.specs.End.{EndAccepted}
 use Rattle.walk.specs.Judge.{accepts, refuses}
-use Rattle.walk.specs.Take.{arraysAs}
 use Rattle.walk.proofs.Meaning.{accepted-is, in-pieces, is-accepted, is-refused, refused-is, roomy}
 use Rattle.walk.proofs.judge.judge_arrays.Statement.{statement}
 use Rattle.walk.proofs.judge.judge_arrays.Tie as tie

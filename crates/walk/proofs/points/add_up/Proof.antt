@@ -2,7 +2,7 @@
 -- Assumes nothing.
 use mathlib.Core.List.{[]}
 use native.Mathlib.Omega.{arith}
-use Rattle.walk.specs.Take.{arraysAs}
+use Rattle.model.specs.Arrays.{arraysAs}
 use Rattle.walk.specs.laws.Budgets.{AddingUp, adding-all, adding-fits, adding-more, adding-none, adding-room}
 use Rattle.walk.proofs.points.add_up.Statement.{statement}
 use Rattle.walk.proofs.points.add_up.Tie as tie

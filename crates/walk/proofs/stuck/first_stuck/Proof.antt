@@ -8,7 +8,7 @@ use mathlib.Core.Path.{_≡_, refl}
 use native.Mathlib.Omega.{arith}
 use Rattle.finite.specs.Finite.{Below}
 use Rattle.walk.specs.Stuck.{StuckTask}
-use Rattle.walk.specs.Take.{arraysAs}
+use Rattle.model.specs.Arrays.{arraysAs}
 use Rattle.walk.specs.laws.Stuck.{Searching, goes-free, none-found, searching-more, searching-none, stops-blocked, stuck-found, stuck-nowhere}
 use Rattle.walk.proofs.stuck.first_stuck.Statement.{statement}
 use Rattle.walk.proofs.stuck.first_stuck.Tie as tie
