@@ -6,7 +6,7 @@ use Prim.Native.Nat.{ℕ, _+_, _<_}
 use lib.ListN.{getD, set}
 use Rattle.finite.specs.Masks.{bit, digit, maskOf}
 use Rattle.arrays.specs.Rules as array
-use Rattle.arrays.specs.laws.Masks.{bit-maskOf}
+use Rattle.finite.specs.laws.Masks.{bit-maskOf}
 use Rattle.finite.specs.laws.Lists.{filled-more}
 use Rattle.finite.specs.laws.Tests.{cond-false, cond-true}
 use Rattle.promise.specs.Rules.{State, admit, letsIn}

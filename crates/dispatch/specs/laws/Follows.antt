@@ -6,7 +6,7 @@ use Prim.Native.Nat.{ℕ, _+_, _-_, _^_, _≤_, _<_}
 use native.Mathlib.Omega.{arith}
 use lib.Count.{ones}
 use Rattle.finite.specs.Masks.{bit, countOf, maskOf}
-use Rattle.arrays.specs.laws.Masks.{asked-split, maskOf-alike, ones-maskOf}
+use Rattle.finite.specs.laws.Masks.{asked-split, maskOf-alike, ones-maskOf}
 use Rattle.model.specs.Phase.{Choice}
 use Rattle.model.specs.Tasks.{Tasks}
 use Rattle.promise.specs.Rules.{Answer, State, admit, answerBy, elapse, letsIn, pick, workAt}

@@ -9,7 +9,7 @@ use native.Mathlib.Omega.{arith}
 use lib.Dec.{eqb}
 use borrow.Author.Tests.{le-ltb}
 use Rattle.finite.specs.Masks.{bit, maskOf}
-use Rattle.arrays.specs.laws.Masks.{bit-maskOf, maskOf-lt}
+use Rattle.finite.specs.laws.Masks.{bit-maskOf, maskOf-lt}
 use Rattle.records.specs.Ranges.{WithCounts, usable}
 use Rattle.records.specs.Record.{recordOf, requestOf}
 use Rattle.records.specs.Start.{Ready, readyRecord}

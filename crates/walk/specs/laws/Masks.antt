@@ -11,11 +11,12 @@ use lib.Arith.{digits-lt}
 use lib.Bits.{bitAnd, and-le-r, and-self, and-step}
 use lib.Count.{trailingZeros, under}
 use lib.Dec.{eqb, lit<}
-use lib.Pow.{field, high, low, mod-mod-pow, pow-mono, shl-exact, shr-shr}
+use lib.Pow.{high, low, pow-mono, shr-shr}
+use Rattle.finite.specs.Masks.{bit}
+use Rattle.finite.specs.laws.Masks.{bit-mod, one-shifted}
 use Rattle.finite.specs.laws.Tests.{le-or-lt}
 use Rattle.model.specs.Ranges.{tasksMost}
 use Rattle.walk.specs.Masks.{BitPut, FirstOf, OthersOf, lowest}
-use Rattle.finite.specs.Masks.{bit}
 
 -- ---- bits
 
@@ -33,23 +34,10 @@ bit-none i = bit-beyond {m = 0} {n = 0} (lit< tt) i (omega arith)
 bit-low : (m : ℕ) → bit m 0 ≡ eqb (m % 2) 1
 bit-low m = ap (λ (x : ℕ). eqb (x % 2) 1) (div-one m)
 
--- a bit below n is a bit of the remainder by 2 ^ n
-bit-mod : (n m i : ℕ) → i < n → bit (m % 2 ^ n) i ≡ bit m i
-bit-mod n m i h =
-    let e : n ≡ (n - (1 + i)) + (1 + i) = omega arith in
-    let f : m % 2 ^ n % 2 ^ (1 + i) ≡ m % 2 ^ (1 + i) = rw e (mod-mod-pow m (n - (1 + i)) (1 + i)) in
-    ap (λ (x : ℕ). eqb x 1) (sym (field (m % 2 ^ n) 1 i) ∙ ap (λ (x : ℕ). x / 2 ^ i) f ∙ field m 1 i)
-
 -- ---- one bit more, above all that the mask has
-
-pub one-shifted : (i : ℕ) → i < tasksMost → (1 * 2 ^ i) % 2 ^ 32 ≡ 1 * 2 ^ i
-one-shifted i h = shl-exact 1 i 32 (lit< tt) (omega arith)
 
 more-less : (i m : ℕ) → m < 2 ^ i → 1 * 2 ^ i + m < 2 ^ (i + 1)
 more-less i m l = rw (add-one, pow-succ') (digits-lt {q = 1} {m = 2} (lit< tt) l)
-
-pub more-fits : (i m : ℕ) → i < tasksMost → m < 2 ^ i → (1 * 2 ^ i) % 2 ^ 32 + m < 2 ^ 32
-more-fits i m h l = rw (one-shifted i h) (lt-of-lt-of-le (more-less i m l) (pow-mono {j = 32} (omega arith)))
 
 module _ {i m : ℕ} (l : m < 2 ^ i) where
   more-below : (k : ℕ) → k < i → bit (1 * 2 ^ i + m) k ≡ bit m k

@@ -4,7 +4,7 @@ use Prim.Native.Nat.{_-_, _≤_}
 use native.Mathlib.Omega.{arith}
 use Rattle.finite.specs.Masks.{maskOf}
 use Rattle.arrays.specs.Rules.{entersOf}
-use Rattle.arrays.specs.laws.Masks.{maskOf-lt, maskOf-more, maskOf-none}
+use Rattle.finite.specs.laws.Masks.{maskOf-lt, maskOf-more, maskOf-none}
 use borrow.Author.Needs.{needs}
 use Rattle.arrays.proofs.rules.let_in.Statement.{statement}
 use Rattle.arrays.proofs.rules.let_in.Tie as tie

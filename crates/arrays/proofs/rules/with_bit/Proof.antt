@@ -1,6 +1,6 @@
 -- `with_bit` meets its contract. Assumes nothing.
 use native.Mathlib.Omega.{arith}
-use Rattle.arrays.specs.laws.Masks.{more-fits, one-shifted}
+use Rattle.finite.specs.laws.Masks.{more-fits, one-shifted}
 use borrow.Author.Needs.{needs}
 use Rattle.arrays.proofs.rules.with_bit.Statement.{statement}
 use Rattle.arrays.proofs.rules.with_bit.Tie as tie

@@ -1,7 +1,8 @@
 -- `mark` meets its contract: a bit above all others is added. Assumes nothing.
 use borrow.Author.Needs.{needs}
 use mathlib.Core.Path.{refl}
-use Rattle.walk.specs.laws.Masks.{marks, more-fits}
+use Rattle.finite.specs.laws.Masks.{more-fits}
+use Rattle.walk.specs.laws.Masks.{marks}
 use Rattle.walk.proofs.masks.mark.Statement.{statement}
 use Rattle.walk.proofs.masks.mark.Tie as tie
 

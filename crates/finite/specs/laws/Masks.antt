@@ -44,7 +44,7 @@ ones-maskOf zero p = ones-digit false
 ones-maskOf (suc n) p = ones-cat n (digit (p n)) (maskOf n p) (maskOf-lt n p) ∙ ap₂ _+_ (ones-digit (p n)) (ones-maskOf n p)
 
 -- a bit below n is a bit of the remainder by 2 ^ n
-bit-mod : (n m i : ℕ) → i < n → bit (m % 2 ^ n) i ≡ bit m i
+pub bit-mod : (n m i : ℕ) → i < n → bit (m % 2 ^ n) i ≡ bit m i
 bit-mod n m i h =
     let e : n ≡ (n - (1 + i)) + (1 + i) = omega arith in
     let f : m % 2 ^ n % 2 ^ (1 + i) ≡ m % 2 ^ (1 + i) = rw e (mod-mod-pow m (n - (1 + i)) (1 + i)) in
