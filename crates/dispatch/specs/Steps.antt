@@ -6,14 +6,14 @@ use mathlib.Core.Bool.{Bool, true}
 use Prim.Native.Nat.{ℕ}
 use Rattle.finite.specs.Masks.{bit, maskOf}
 use Rattle.records.specs.Ranges.{inRange}
-use Rattle.records.specs.Record.{countsIn, recordOf, stateIn, tasksIn}
+use Rattle.records.specs.Record.{countsIn, heldIn, recordOf, stateIn, tasksIn}
 use Rattle.records.specs.declared.Dispatcher.{Dispatcher}
 use Rattle.dispatch.specs.declared.steps.Ran.{Ran}
 use Rattle.promise.specs.Rules as rules
 
--- the record with d's table and counts, in another state
+-- the record that holds what d holds, its table and counts, in another state
 abbrev pub inState : Dispatcher → rules.State → Dispatcher
-inState d s = recordOf (tasksIn d) (countsIn d) s
+inState d s = recordOf (heldIn d) s
 
 -- 1. Admission: a job of each task let in begins. What is answered is the mask of those let in.
 pub record Admits (d : Dispatcher) (asked : ℕ) (next : Dispatcher) (entered : ℕ) : Type 0 where

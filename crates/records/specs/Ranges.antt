@@ -3,16 +3,16 @@
 -- Assumes nothing.
 use mathlib.Core.Path.{_≡_}
 use mathlib.Core.Bool.{Bool, _&&_}
-use Prim.Native.Nat.{ℕ, _-_, _/_, _%_, _≤_}
+use Prim.Native.Nat.{ℕ, _-_, _≤_}
 use lib.Dec.{leb, ltb, eqb}
 use lib.ListN.{getD}
 use Rattle.finite.specs.Finite.{allTo}
 use Rattle.finite.specs.If.{if_then_else_}
 use Rattle.model.specs.Phase.{Choice, phasesOf}
-use Rattle.model.specs.Ranges.{InTable, tableTest, within}
+use Rattle.model.specs.Ranges.{InTable, allPhases, numberTest, tableTest, within}
 use Rattle.model.specs.Tasks.{Each, Tasks}
 use Rattle.promise.specs.Rules.{State, stated}
-use Rattle.records.specs.Record.{countsIn, emptyRecord, stateIn, tasksIn}
+use Rattle.records.specs.Record.{Held, countsIn, emptyRecord, heldIn, stateIn, tasksIn}
 use Rattle.records.specs.declared.Dispatcher.{Dispatcher}
 
 -- each count from 1 to the most that its phase may have, which is c; where there is no phase, 0
@@ -21,14 +21,18 @@ pub record CountsIn (S : Tasks) (x : Choice) : Type 0 where
   pub count-most : Each S (λ i j. x i j ≤ phasesOf S .most i j)
   pub no-count : (i j : ℕ) → S .m i ≤ j → x i j ≡ 0
 
--- a table with counts, each number in its range
-pub record WithCounts (S : Tasks) (x : Choice) : Type 0 where
-  pub table : InTable S
-  pub counts : CountsIn S x
+-- what no tick changes of a record, each number in its range
+pub record HeldIn (h : Held) : Type 0 where
+  pub table : InTable (h .table)
+  pub counts : CountsIn (h .table) (h .counts)
 
 -- the test of a count
 abbrev pub countTest : Tasks → Choice → ℕ → ℕ → Bool
-countTest S x i j = if ltb j (S .m i) then within 1 (phasesOf S .most i j) (x i j) else eqb (x i j) 0
+countTest S x i j = numberTest (S .m) 1 (phasesOf S .most i j) x i j
+
+-- of what no tick changes: the table, then the counts
+unfoldable pub heldTest : Held → Bool
+heldTest h = tableTest (h .table) && allPhases (countTest (h .table) (h .counts))
 
 -- the ticks since a task's last admitted release, 0 to T
 abbrev pub sinceTest : Tasks → State → ℕ → Bool
@@ -67,8 +71,7 @@ runTest S x s =
 -- every place is 0: the number of tasks is 0 only in the empty record.
 unfoldable pub inRange : Dispatcher → Bool
 inRange d =
-    tableTest (tasksIn d) &&
-    allTo 256 (λ p. countTest (tasksIn d) (countsIn d) (p / 8) (p % 8)) &&
+    heldTest (heldIn d) &&
     allTo 32 (changingTest d) &&
     runTest (tasksIn d) (countsIn d) (stateIn d)
 

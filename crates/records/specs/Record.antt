@@ -1,22 +1,66 @@
 -- DEFINITIONS. How the dispatcher's record, an array for each field, is read as a table with counts and as the rules' state, and how it is written
--- from them. The rules are those of promise; tasks and phases are numbered from 0.
+-- from them. The rules are those of promise; tasks and phases are numbered from 0. What no tick changes stands in `Fixed` and `Held`, and the record is
+-- written in one place, `recordWith`.
 -- Assumes nothing.
 use mathlib.Core.Path.{_≡_}
 use mathlib.Core.Bool.{Bool}
-use Prim.Native.Nat.{ℕ, _/_, _%_}
+use mathlib.Core.List.{List}
+use Prim.Native.Nat.{ℕ}
 use lib.Dec.{eqb}
 use lib.ListN.{getD, length, replicate}
 use Rattle.finite.specs.Masks.{bit, digit}
 use Rattle.finite.specs.Finite.{listTo}
 use Rattle.records.specs.declared.Dispatcher.{Dispatcher}
-use Rattle.model.specs.Arrays.{Arrays, Sized, asTasks, phaseAt}
+use Rattle.model.specs.Arrays.{Arrays, Sized, arraysAs, arraysFrom, asTasks, byPhase, emptyArrays, phaseAt}
 use Rattle.model.specs.Phase.{Choice}
 use Rattle.model.specs.Tasks.{Tasks}
 use Rattle.promise.specs.Rules.{Request, State}
 
--- the arrays of a record's table
+-- ---- what no tick changes
+
+-- as it stands in arrays: those of the table, and the count of each phase
+pub record Fixed : Type 0 where
+  pub table : Arrays
+  pub counts : List ℕ
+
+-- the same in the words of the model: the table's tasks, and a count for each of their phases
+pub record Held : Type 0 where
+  pub table : Tasks
+  pub counts : Choice
+
+-- the parts of it one by one
+abbrev pub fixedAs : Arrays → (counts : List ℕ) → Fixed
+fixedAs table counts = record { table = table; counts = counts }
+
+-- what the arrays hold
+abbrev pub heldOf : Fixed → Held
+heldOf f = record { table = asTasks (f .table); counts = phaseAt (f .counts) }
+
+-- the way back: the arrays that hold it
+abbrev pub fixedOf : Held → Fixed
+fixedOf h = fixedAs (arraysFrom (h .table)) (byPhase (h .counts))
+
+-- what a record holds that starts with a table and counts
+abbrev pub heldFor : Tasks → Choice → Held
+heldFor S x = record { table = S; counts = x }
+
+-- nothing
+abbrev pub nothingFixed : Fixed
+nothingFixed = fixedAs emptyArrays (replicate 256 0)
+
+-- ---- a record, read
+
+-- the arrays of its table
 abbrev pub arraysIn : Dispatcher → Arrays
-arraysIn d = record { tasks = d .tasks; spacing = d .spacing; deadline = d .deadline; phases = d .phases; work = d .work; cost = d .cost }
+arraysIn d = arraysAs (d .tasks) (d .spacing) (d .deadline) (d .phases) (d .work) (d .cost)
+
+-- all that no tick changes of it
+abbrev pub fixedIn : Dispatcher → Fixed
+fixedIn d = fixedAs (arraysIn d) (d .counts)
+
+-- and what that holds
+abbrev pub heldIn : Dispatcher → Held
+heldIn d = heldOf (fixedIn d)
 
 -- its table
 abbrev pub tasksIn : Dispatcher → Tasks
@@ -42,43 +86,36 @@ stateIn d = record {
 abbrev pub requestOf : ℕ → Bool → Request
 requestOf mask flag = record { mask = bit mask; flag = flag }
 
--- the way back: the record of a table, counts and a state, place by place
-abbrev pub recordOf : Tasks → Choice → State → Dispatcher
-recordOf S x s = record {
-  tasks = S .n;
-  spacing = listTo 32 (S .T);
-  deadline = listTo 32 (S .D);
-  phases = listTo 32 (S .m);
-  work = listTo 256 (λ p. S .c (p / 8) (p % 8));
-  cost = listTo 256 (λ p. S .q (p / 8) (p % 8));
-  counts = listTo 256 (λ p. x (p / 8) (p % 8));
-  since = listTo 32 (s .since);
-  unfinished = listTo 32 (λ i. digit (s .busy i));
-  left = listTo 32 (s .left);
-  phase = listTo 32 (s .phase);
-  piece = listTo 32 (s .piece);
-  running = s .run;
-  ticks = s .ticks;
+-- ---- a record, written
+
+-- THE RECORD, field by field: what no tick changes, then what a tick changes
+abbrev pub recordWith : Fixed → (since unfinished left phase piece : List ℕ) → (running ticks : ℕ) → Dispatcher
+recordWith f since unfinished left phase piece running ticks = record {
+  tasks = f .table .tasks;
+  spacing = f .table .spacing;
+  deadline = f .table .deadline;
+  phases = f .table .phases;
+  work = f .table .work;
+  cost = f .table .cost;
+  counts = f .counts;
+  since = since;
+  unfinished = unfinished;
+  left = left;
+  phase = phase;
+  piece = piece;
+  running = running;
+  ticks = ticks;
 }
+
+-- the way back: the record of a table with counts, and of a state, place by place
+abbrev pub recordOf : Held → State → Dispatcher
+recordOf h s =
+    recordWith (fixedOf h) (listTo 32 (s .since)) (listTo 32 (λ i. digit (s .busy i))) (listTo 32 (s .left)) (listTo 32 (s .phase)) (listTo 32 (s .piece))
+    (s .run) (s .ticks)
 
 -- the empty record: it runs nothing and lets nothing in
 abbrev pub emptyRecord : Dispatcher
-emptyRecord = record {
-  tasks = 0;
-  spacing = replicate 32 0;
-  deadline = replicate 32 0;
-  phases = replicate 32 0;
-  work = replicate 256 0;
-  cost = replicate 256 0;
-  counts = replicate 256 0;
-  since = replicate 32 0;
-  unfinished = replicate 32 0;
-  left = replicate 32 0;
-  phase = replicate 32 0;
-  piece = replicate 32 0;
-  running = 0;
-  ticks = 0;
-}
+emptyRecord = recordWith nothingFixed (replicate 32 0) (replicate 32 0) (replicate 32 0) (replicate 32 0) (replicate 32 0) 0 0
 
 -- the lengths of the arrays, which their types give
 pub record Long (d : Dispatcher) : Type 0 where

@@ -2,8 +2,8 @@
 mod ranges;
 
 use crate::ranges::changing_in;
+use crate::ranges::held_in;
 use crate::ranges::running_in;
-use crate::ranges::table_in;
 ghost use mathlib.Core.Path.{_≡_};
 ghost use Rattle.records.specs.Record.{emptyRecord};
 ghost use Rattle.records.specs.Taken.{Taken};
@@ -58,42 +58,42 @@ impl Dispatcher {
 
 // What a record is taken as: itself where every field is in its range, else the empty record. The test stands here and not in a call of its own, which
 // would copy the record once more.
-pub fn taken(mut d: Dispatcher) -> Dispatcher
-    ensures { λ r. ⌜ Taken d r ⌝ }
+pub fn taken(mut given: Dispatcher) -> Dispatcher
+    ensures { λ r. ⌜ Taken given r ⌝ }
 {
     let runs = running_in(
-        d.running,
-        d.tasks,
-        d.ticks,
-        &d.unfinished,
-        &d.phase,
-        &d.piece,
-        &d.work,
-        &d.cost,
-        &d.counts,
+        given.running,
+        given.tasks,
+        given.ticks,
+        &given.unfinished,
+        &given.phase,
+        &given.piece,
+        &given.work,
+        &given.cost,
+        &given.counts,
     );
-    let table = table_in(
-        d.tasks,
-        &d.spacing,
-        &d.deadline,
-        &d.phases,
-        &d.work,
-        &d.cost,
-        &d.counts,
+    let held = held_in(
+        given.tasks,
+        &given.spacing,
+        &given.deadline,
+        &given.phases,
+        &given.work,
+        &given.cost,
+        &given.counts,
     );
     let changing = changing_in(
-        &d.spacing,
-        &d.deadline,
-        &d.phases,
-        &d.counts,
-        &d.since,
-        &d.unfinished,
-        &d.left,
-        &d.phase,
-        &d.piece,
+        &given.spacing,
+        &given.deadline,
+        &given.phases,
+        &given.counts,
+        &given.since,
+        &given.unfinished,
+        &given.left,
+        &given.phase,
+        &given.piece,
     );
-    if !(table & changing & runs) {
-        d = Dispatcher::empty();
+    if !(held & changing & runs) {
+        given = Dispatcher::empty();
     }
-    d
+    given
 }

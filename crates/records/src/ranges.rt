@@ -7,98 +7,111 @@ use arrays::numbers::either;
 use arrays::numbers::index;
 use arrays::rules::due_ticks;
 use table::Table;
+ghost use mathlib.Core.Bool.{_&&_};
 ghost use mathlib.Core.Path.{_≡_};
 ghost use Prim.Native.Nat.{_-_, _<_};
 ghost use lib.Dec.{eqb};
 ghost use lib.ListN.{getD, length};
 ghost use Rattle.arrays.specs.Rules.{ticksOf};
 ghost use Rattle.finite.specs.Finite.{allTo};
-ghost use Rattle.model.specs.Arrays.{asTasks, phaseAt};
-ghost use Rattle.model.specs.Ranges.{taskTest};
-ghost use Rattle.records.specs.Lent.{arraysAs, changingAll, jobAt, numbersAs, phasesAs, pieceAt, placeAt, placeIn, runIn, sinceAt, tableAll};
+ghost use Rattle.model.specs.Arrays.{arraysAs, asTasks, phaseAt, tasksAlone};
+ghost use Rattle.model.specs.Ranges.{taskTest, workMost};
+ghost use Rattle.records.specs.Lent.{changingAll, inPlace, jobAt, numberAt, pieceAt, runIn, sinceAt};
+ghost use Rattle.records.specs.Ranges.{heldTest};
+ghost use Rattle.records.specs.Record.{fixedAs, heldOf};
 
-// ---- the table and the counts
+// ---- what no tick changes
 
-// T, D and the number of phases of task i of n; zeros where there is no task.
+// T, D and the number of phases of task i; zeros where there is no task.
 fn task_at<'a>(
-    n: u32,
+    tasks: u32,
     spacing: &'a [u32; 32],
     deadline: &'a [u32; 32],
     phases: &'a [u32; 32],
     i: usize,
 ) -> bool
     requires { ⌜ i < 32 ⌝ }
-    ensures { λ r. ⌜ r ≡ taskTest (asTasks (numbersAs n (now (spacing .entry)) (now (deadline .entry)) (now (phases .entry)))) i ⌝ }
+    ensures { λ r. ⌜ r ≡ taskTest (asTasks (tasksAlone tasks (now (spacing .entry)) (now (deadline .entry)) (now (phases .entry)))) i ⌝ }
 {
-    let t = spacing[i];
-    let d = deadline[i];
-    let m = phases[i];
-    let there = ((1 <= t) & (t <= Table::SPACING_MOST as u32))
-        & ((1 <= d) & (d <= t))
-        & ((1 <= m) & (m <= Table::PHASES_MOST as u32));
-    choose(i < n as usize, there, (t == 0) & (d == 0) & (m == 0))
+    let least_spacing = spacing[i];
+    let due_within = deadline[i];
+    let many = phases[i];
+    let there = ((1 <= least_spacing) & (least_spacing <= Table::SPACING_MOST as u32))
+        & ((1 <= due_within) & (due_within <= least_spacing))
+        & ((1 <= many) & (many <= Table::PHASES_MOST as u32));
+    let absent = (least_spacing == 0) & (due_within == 0) & (many == 0);
+    choose(i < tasks as usize, there, absent)
 }
 
 fn tasks_in<'a>(
-    n: u32,
+    tasks: u32,
     spacing: &'a [u32; 32],
     deadline: &'a [u32; 32],
     phases: &'a [u32; 32],
 ) -> bool
-    ensures { λ r. ⌜ r ≡ allTo 32 (taskTest (asTasks (numbersAs n (now (spacing .entry)) (now (deadline .entry)) (now (phases .entry))))) ⌝ }
+    ensures { λ r. ⌜ r ≡ allTo 32 (taskTest (asTasks (tasksAlone tasks (now (spacing .entry)) (now (deadline .entry)) (now (phases .entry))))) ⌝ }
 {
     let mut ok = true;
     for i in 0usize..32 {
-        ok = ok & task_at(n, spacing, deadline, phases, i);
+        ok = ok & task_at(tasks, spacing, deadline, phases, i);
     }
     ok
 }
 
-// Of a phase that exists 1 <= x <= c, and c and q are at most what they may be; of a place not used x is 0, and c and q are at most 0.
-fn place_in(exists: bool, c: u32, q: u32, x: u32) -> bool
-    ensures { λ r. ⌜ r ≡ placeIn exists c q x ⌝ }
+// A number of a phase from `least` to `most`; 0 at a place that is not used.
+fn number_in(used: bool, least: u32, most: u32, number: u32) -> bool
+    ensures { λ r. ⌜ r ≡ inPlace used least most number ⌝ }
 {
-    let work_most = either(exists, Table::WORK_MOST as u32, 0);
-    let cost_most = either(exists, Table::COST_MOST as u32, 0);
-    choose(exists, 1 <= x, x == 0) & (x <= c) & (c <= work_most) & (q <= cost_most)
+    (either(used, least, 0) <= number) & (number <= either(used, most, 0))
 }
 
-// c, q and the count at place p.
-fn place_at<'a>(
-    phases: &'a [u32; 32],
-    work: &'a [u32; 256],
-    cost: &'a [u32; 256],
-    counts: &'a [u32; 256],
-    p: usize,
-) -> bool
-    requires { ⌜ p < 256 ⌝ }
-    ensures { λ r. ⌜ r ≡ placeAt (phasesAs (now (phases .entry)) (now (work .entry)) (now (cost .entry))) (now (counts .entry)) p ⌝ }
+// The work and the count of a phase. (With a count from 1 to the work, the work is at least 1.)
+fn counted_in(used: bool, work: u32, count: u32) -> bool
+    ensures { λ r. ⌜ r ≡ (inPlace used 1 workMost work && inPlace used 1 work count) ⌝ }
 {
-    place_in(
-        ((p % 8) as u32) < phases[p / 8],
-        work[p],
-        cost[p],
-        counts[p],
+    let work_most = either(used, Table::WORK_MOST as u32, 0);
+    choose(used, 1 <= count, count == 0) & (count <= work) & (work <= work_most)
+}
+
+// The number at a place of an array of 256.
+fn number_at<'a>(
+    phases: &'a [u32; 32],
+    numbers: &'a [u32; 256],
+    least: u32,
+    most: u32,
+    place: usize,
+) -> bool
+    requires { ⌜ place < 256 ⌝ }
+    ensures { λ r. ⌜ r ≡ numberAt (now (phases .entry)) least (λ p. most) (now (numbers .entry)) place ⌝ }
+{
+    number_in(
+        ((place % 8) as u32) < phases[place / 8],
+        least,
+        most,
+        numbers[place],
     )
 }
 
-fn places_in<'a>(
+// The work and the count at a place.
+fn counted_at<'a>(
     phases: &'a [u32; 32],
     work: &'a [u32; 256],
-    cost: &'a [u32; 256],
     counts: &'a [u32; 256],
+    place: usize,
 ) -> bool
-    ensures { λ r. ⌜ r ≡ allTo 256 (placeAt (phasesAs (now (phases .entry)) (now (work .entry)) (now (cost .entry))) (now (counts .entry))) ⌝ }
+    requires { ⌜ place < 256 ⌝ }
+    ensures { λ r. ⌜ r ≡ (numberAt (now (phases .entry)) 1 (λ p. workMost) (now (work .entry)) place && numberAt (now (phases .entry)) 1 (λ p. getD (now (work .entry)) p 0) (now (counts .entry)) place) ⌝ }
 {
-    let mut ok = true;
-    for p in 0usize..256 {
-        ok = ok & place_at(phases, work, cost, counts, p);
-    }
-    ok
+    counted_in(
+        ((place % 8) as u32) < phases[place / 8],
+        work[place],
+        counts[place],
+    )
 }
 
-pub fn table_in<'a>(
-    n: u32,
+// The table and the counts. One loop over all places of the phases, whatever numbers a phase has: to find out which are used costs most of it.
+pub fn held_in<'a>(
+    tasks: u32,
     spacing: &'a [u32; 32],
     deadline: &'a [u32; 32],
     phases: &'a [u32; 32],
@@ -106,11 +119,16 @@ pub fn table_in<'a>(
     cost: &'a [u32; 256],
     counts: &'a [u32; 256],
 ) -> bool
-    ensures { λ r. ⌜ r ≡ tableAll (arraysAs n (now (spacing .entry)) (now (deadline .entry)) (now (phases .entry)) (now (work .entry)) (now (cost .entry))) (now (counts .entry)) ⌝ }
+    ensures { λ r. ⌜ r ≡ heldTest (heldOf (fixedAs (arraysAs tasks (now (spacing .entry)) (now (deadline .entry)) (now (phases .entry)) (now (work .entry)) (now (cost .entry))) (now (counts .entry)))) ⌝ }
 {
-    let tasks = tasks_in(n, spacing, deadline, phases);
-    let places = places_in(phases, work, cost, counts);
-    (n <= Table::TASKS_MOST as u32) & tasks & places
+    let each = tasks_in(tasks, spacing, deadline, phases);
+    let mut ok = true;
+    for place in 0usize..256 {
+        ok = ok
+            & (counted_at(phases, work, counts, place)
+                & number_at(phases, cost, 0, Table::COST_MOST as u32, place));
+    }
+    (tasks <= Table::TASKS_MOST as u32) & each & ok
 }
 
 // ---- what a tick changes
@@ -140,11 +158,14 @@ fn job_at<'a>(
     ensures { λ r. ⌜ r ≡ jobAt (now (deadline .entry)) (now (phases .entry)) (now (unfinished .entry)) (now (left .entry)) (now (phase .entry)) (now (piece .entry)) i ⌝ }
 {
     let flag = unfinished[i];
-    let l = left[i];
-    let j = phase[i];
-    let k = piece[i];
-    let there = (l <= deadline[i]) & ((1 <= j) & (j <= phases[i])) & (1 <= k);
-    (flag <= 1) & choose(flag == 1, there, (l == 0) & (j == 0) & (k == 0))
+    let time = left[i];
+    let due_phase = phase[i];
+    let due_piece = piece[i];
+    let there = (time <= deadline[i])
+        & ((1 <= due_phase) & (due_phase <= phases[i]))
+        & (1 <= due_piece);
+    let absent = (time == 0) & (due_phase == 0) & (due_piece == 0);
+    (flag <= 1) & choose(flag == 1, there, absent)
 }
 
 fn jobs_in<'a>(
@@ -165,11 +186,11 @@ fn jobs_in<'a>(
 }
 
 // What stands at phase j of task i.
-fn at_phase(a: &[u32; 256], i: usize, j: usize) -> u32
+fn at_phase(numbers: &[u32; 256], i: usize, j: usize) -> u32
     requires { ⌜ i < 32 ⌝ }
-    ensures { λ r. ⌜ r ≡ phaseAt (now (a .entry)) i j ⌝ }
+    ensures { λ r. ⌜ r ≡ phaseAt (now (numbers .entry)) i j ⌝ }
 {
-    if j < 8 { a[8 * i + j] } else { 0 }
+    if j < 8 { numbers[8 * i + j] } else { 0 }
 }
 
 // The most of the piece of task i.
@@ -182,9 +203,9 @@ fn piece_at<'a>(
     requires { ⌜ i < 32 ⌝ }
     ensures { λ r. ⌜ r ≡ pieceAt (now (counts .entry)) (now (phase .entry)) (now (piece .entry)) i ⌝ }
 {
-    let k = piece[i];
-    let j = index(down(phase[i]));
-    k <= at_phase(counts, i, j)
+    let due_piece = piece[i];
+    let due_phase = index(down(phase[i]));
+    due_piece <= at_phase(counts, i, due_phase)
 }
 
 // A loop of its own, since its reads lie apart.
@@ -219,20 +240,20 @@ pub fn changing_in<'a>(
 
 // ---- the running piece
 
-fn run_in(run: u32, n: u32, unfinished: bool, ticks: u64, most: u64) -> bool
-    ensures { λ r. ⌜ r ≡ runIn run n unfinished ticks most ⌝ }
+fn run_in(run: u32, tasks: u32, unfinished: bool, ticks: u64, most: u64) -> bool
+    ensures { λ r. ⌜ r ≡ runIn run tasks unfinished ticks most ⌝ }
 {
     choose(
         run == 0,
         ticks == 0,
-        (run <= n) & unfinished & ((1 <= ticks) & (ticks <= most)),
+        (run <= tasks) & unfinished & ((1 <= ticks) & (ticks <= most)),
     )
 }
 
-// The running task of n and the ticks left of its piece.
+// The running task and the ticks left of its piece.
 pub fn running_in<'a>(
     run: u32,
-    n: u32,
+    tasks: u32,
     ticks: u64,
     unfinished: &'a [u32; 32],
     phase: &'a [u32; 32],
@@ -242,9 +263,9 @@ pub fn running_in<'a>(
     counts: &'a [u32; 256],
 ) -> bool
     requires { ⌜ (length (now unfinished) ≡ 32) × (length (now phase) ≡ 32) × (length (now piece) ≡ 32) × (length (now work) ≡ 256) × (length (now cost) ≡ 256) × (length (now counts) ≡ 256) ⌝ }
-    ensures { λ r. ⌜ r ≡ runIn run n (eqb (getD (now (unfinished .entry)) (run - 1) 0) 1) ticks (ticksOf (now (phase .entry)) (now (piece .entry)) (now (work .entry)) (now (cost .entry)) (now (counts .entry)) run) ⌝ }
+    ensures { λ r. ⌜ r ≡ runIn run tasks (eqb (getD (now (unfinished .entry)) (run - 1) 0) 1) ticks (ticksOf (now (phase .entry)) (now (piece .entry)) (now (work .entry)) (now (cost .entry)) (now (counts .entry)) run) ⌝ }
 {
     let flag = at32(unfinished, index(down(run)));
     let most = due_ticks(phase, piece, work, cost, counts, run);
-    run_in(run, n, flag == 1, ticks, most)
+    run_in(run, tasks, flag == 1, ticks, most)
 }

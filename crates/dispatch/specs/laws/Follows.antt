@@ -12,7 +12,7 @@ use Rattle.model.specs.Tasks.{Tasks}
 use Rattle.promise.specs.Rules.{Answer, State, admit, answerBy, elapse, letsIn, pick, workAt}
 use Rattle.promise.specs.laws.Answers.{answer-lets}
 use Rattle.records.specs.Ranges.{inRange, usable}
-use Rattle.records.specs.Record.{countsIn, recordOf, requestOf, stateIn, tasksIn}
+use Rattle.records.specs.Record.{countsIn, heldIn, recordOf, requestOf, stateIn, tasksIn}
 use Rattle.records.specs.declared.Dispatcher.{Dispatcher}
 use Rattle.records.specs.laws.Fields.{Fields, Long}
 use Rattle.records.specs.laws.InRange.{range-fields}
@@ -78,26 +78,26 @@ module _ (d : Dispatcher) (f : Fields d) (asked : ℕ) (flag : Bool) (a b c next
   keeps₃ : Keeps S x s₃
   keeps₃ = work-keeps S x (ranged d f) s₂ keeps₂ flag
 
-  picked-is : b ≡ recordOf S x s₂
+  picked-is : b ≡ recordOf (heldIn d) s₂
   picked-is =
-      picked .moved ∙ ap (λ (r : Dispatcher). recordOf (tasksIn r) (countsIn r) (pick (tasksIn r) (countsIn r) (stateIn r))) (admits .moved) ∙
-      reads d f s₁ keeps₁ (λ S x s. recordOf S x (pick S x s))
+      picked .moved ∙ ap (λ (r : Dispatcher). recordOf (heldIn r) (pick (tasksIn r) (countsIn r) (stateIn r))) (admits .moved) ∙
+      reads d f s₁ keeps₁ (λ h s. recordOf h (pick (h .table) (h .counts) s))
 
-  worked-is : c ≡ recordOf S x s₃
+  worked-is : c ≡ recordOf (heldIn d) s₃
   worked-is =
-      worked .moved ∙ ap (λ (r : Dispatcher). recordOf (tasksIn r) (countsIn r) (workAt (tasksIn r) (countsIn r) flag (stateIn r) (r .running))) picked-is ∙
-      reads d f s₂ keeps₂ (λ S x s. recordOf S x (workAt S x flag s (s .run)))
+      worked .moved ∙ ap (λ (r : Dispatcher). recordOf (heldIn r) (workAt (tasksIn r) (countsIn r) flag (stateIn r) (r .running))) picked-is ∙
+      reads d f s₂ keeps₂ (λ h s. recordOf h (workAt (h .table) (h .counts) flag s (s .run)))
 
   next-is : next ≡ recordAfter d (requestOf asked flag)
   next-is =
-      elapsed .moved ∙ ap (λ (r : Dispatcher). recordOf (tasksIn r) (countsIn r) (elapse (tasksIn r) (stateIn r))) worked-is ∙
-      reads d f s₃ keeps₃ (λ S x s. recordOf S x (elapse S s))
+      elapsed .moved ∙ ap (λ (r : Dispatcher). recordOf (heldIn r) (elapse (tasksIn r) (stateIn r))) worked-is ∙
+      reads d f s₃ keeps₃ (λ h s. recordOf h (elapse (h .table) s))
 
   ran-is : ran ≡ ranOf (rulesAnswer d (requestOf asked flag))
   ran-is =
       worked .answered (letsIn S s (bit asked)) ∙
       ap (λ (r : Dispatcher). ranOf (answerBy (tasksIn r) (countsIn r) (letsIn S s (bit asked)) flag (stateIn r) (r .running))) picked-is ∙
-      reads d f s₂ keeps₂ (λ S′ x s′. ranOf (answerBy S′ x (letsIn S s (bit asked)) flag s′ (s′ .run)))
+      reads d f s₂ keeps₂ (λ h s′. ranOf (answerBy (h .table) (h .counts) (letsIn S s (bit asked)) flag s′ (s′ .run)))
 
   lets-is : (i : ℕ) → letsIn S s (bit asked) i ≡ rulesAnswer d (requestOf asked flag) .letIn i
   lets-is i = sym (answer-lets S x (letsIn S s (bit asked)) flag s₂ (s₂ .run) i)

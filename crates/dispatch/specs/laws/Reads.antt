@@ -6,13 +6,11 @@ use Prim.Native.Nat.{ℕ, _≤_, _<_}
 use lib.ListN.{getD}
 use Rattle.finite.specs.Finite.{Below}
 use Rattle.model.specs.Ranges.{phasesMost, tasksMost}
-use Rattle.model.specs.Phase.{Choice}
-use Rattle.model.specs.Tasks.{Tasks}
 use Rattle.promise.specs.Rules.{State}
 use Rattle.promise.specs.laws.Kept.{ranged-of}
 use Rattle.promise.specs.laws.Remaining.{Ranged}
-use Rattle.records.specs.Ranges.{WithCounts, inRange}
-use Rattle.records.specs.Record.{countsIn, stateIn, tasksIn}
+use Rattle.records.specs.Ranges.{HeldIn, inRange}
+use Rattle.records.specs.Record.{Held, countsIn, heldIn, stateIn, tasksIn}
 use Rattle.records.specs.declared.Dispatcher.{Dispatcher}
 use Rattle.records.specs.laws.Fields.{Fields}
 use Rattle.records.specs.laws.Recorded.{read-as, record-in-range}
@@ -20,19 +18,20 @@ use Rattle.dispatch.specs.Steps.{inState}
 use Rattle.dispatch.specs.laws.Keeps.{Keeps}
 
 -- what promise's theory asks of a table's phases
-pub table-ranged : (S : Tasks) (x : Choice) → WithCounts S x → Below (S .n) (Ranged S x)
-table-ranged S x table =
-    ranged-of S x (λ i l. table .table .task i l .phases-least) (λ i j l k. table .counts .count-least i j l k) (λ i j l k. table .counts .count-most i j l k)
+pub table-ranged : (h : Held) → HeldIn h → Below (h .table .n) (Ranged (h .table) (h .counts))
+table-ranged h held =
+    ranged-of (h .table) (h .counts) (λ i l. held .table .task i l .phases-least) (λ i j l k. held .counts .count-least i j l k)
+    (λ i j l k. held .counts .count-most i j l k)
 
 module _ (d : Dispatcher) (f : Fields d) where
   pub ranged : Below (d .tasks) (Ranged (tasksIn d) (countsIn d))
-  ranged = table-ranged (tasksIn d) (countsIn d) (f .table)
+  ranged = table-ranged (heldIn d) (f .held)
 
   pub few : d .tasks ≤ tasksMost
-  few = f .table .table .tasks
+  few = f .held .table .tasks
 
   pub few-phases : (i : ℕ) → i < d .tasks → getD (d .phases) i 0 ≤ phasesMost
-  few-phases i l = f .table .table .task i l .phases-most
+  few-phases i l = f .held .table .task i l .phases-most
 
   -- its own state is one that the rules keep
   pub own-keeps : Keeps (tasksIn d) (countsIn d) (stateIn d)
@@ -41,8 +40,8 @@ module _ (d : Dispatcher) (f : Fields d) where
   module _ (s : State) (k : Keeps (tasksIn d) (countsIn d) s) where
     -- in another state that the rules keep it is in range
     pub still-in-range : (r : Dispatcher) → r ≡ inState d s → inRange r ≡ true
-    still-in-range r e = ap inRange e ∙ record-in-range (tasksIn d) (countsIn d) (f .table) s (k .range) (k .good)
+    still-in-range r e = ap inRange e ∙ record-in-range (heldIn d) (f .held) s (k .range) (k .good)
 
-    -- and read as its table and that state
-    pub reads : {A : Type 0} (g : Tasks → Choice → State → A) → g (tasksIn (inState d s)) (countsIn (inState d s)) (stateIn (inState d s)) ≡ g (tasksIn d) (countsIn d) s
-    reads g = read-as (tasksIn d) (countsIn d) (f .table) s (k .range) g
+    -- and read as what it holds and that state
+    pub reads : {A : Type 0} (g : Held → State → A) → g (heldIn (inState d s)) (stateIn (inState d s)) ≡ g (heldIn d) s
+    reads g = read-as (heldIn d) (f .held) s (k .range) g

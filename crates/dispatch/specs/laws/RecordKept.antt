@@ -1,4 +1,4 @@
--- DEMAND 3 for the dispatcher's record: any series of ticks that keep their promise, from the ready record of a table that is ready, keeps demand 3.
+-- DEMAND 3 for the dispatcher's record: any series of ticks that keep their promise, from the ready record of a table that may be started with, keeps demand 3.
 -- Assumes nothing.
 use mathlib.Core.Path.{_≡_, refl, sym, ap, _∙_, subst}
 use mathlib.Core.Bool.{Bool, true, false, _&&_}
@@ -8,11 +8,11 @@ use native.Mathlib.Nat.{div-eq-of-lt, pow-le-pow-right}
 use native.Mathlib.Omega.{arith}
 use lib.Dec.{eqb}
 use borrow.Author.Tests.{le-ltb}
-use Rattle.finite.specs.Masks.{bit, maskOf}
-use Rattle.finite.specs.laws.Masks.{bit-maskOf, maskOf-lt}
-use Rattle.records.specs.Ranges.{WithCounts, usable}
-use Rattle.records.specs.Record.{recordOf, requestOf}
-use Rattle.records.specs.Start.{Ready, readyRecord}
+use Rattle.arrays.specs.Masks.{bit, maskOf}
+use Rattle.arrays.specs.laws.Masks.{bit-maskOf, maskOf-lt}
+use Rattle.records.specs.Ranges.{HeldIn, usable}
+use Rattle.records.specs.Record.{Held, heldFor, recordOf, requestOf}
+use Rattle.records.specs.Start.{Startable, readyRecord}
 use Rattle.dispatch.specs.Tick.{Ticks, answerFor, answerIn, recordAfter, rulesAnswer}
 use Rattle.dispatch.specs.declared.Answer as code
 use Rattle.records.specs.declared.Dispatcher.{Dispatcher}
@@ -30,15 +30,15 @@ use Rattle.promise.specs.laws.Remaining.{Proper}
 use Rattle.promise.specs.laws.Ticking.{proper}
 
 -- ---- a table's record in a state that the rules keep
-module _ (S : Tasks) (x : Choice) (table : WithCounts S x) (s : State) (range : Range S s) (good : Proper S x s) where
+module _ (h : Held) (held : HeldIn h) (s : State) (range : Range (h .table) s) (good : Proper (h .table) (h .counts) s) where
   abbrev e : Dispatcher
-  e = recordOf S x s
+  e = recordOf h s
 
-  pub record-after : (q : Request) → recordAfter (usable e) q ≡ recordOf S x (tick S x q s)
-  record-after q = ap (λ (z : Dispatcher). recordAfter z q) (usable-is S x table s range good) ∙ read-as S x table s range (λ S x s. recordOf S x (tick S x q s))
+  pub record-after : (q : Request) → recordAfter (usable e) q ≡ recordOf h (tick (h .table) (h .counts) q s)
+  record-after q = ap (λ (z : Dispatcher). recordAfter z q) (usable-is h held s range good) ∙ read-as h held s range (λ h s. recordOf h (tick (h .table) (h .counts) q s))
 
-  pub rules-answer : (q : Request) → rulesAnswer (usable e) q ≡ answerOf S x q s
-  rules-answer q = ap (λ (z : Dispatcher). rulesAnswer z q) (usable-is S x table s range good) ∙ read-as S x table s range (λ S x s. answerOf S x q s)
+  pub rules-answer : (q : Request) → rulesAnswer (usable e) q ≡ answerOf (h .table) (h .counts) q s
+  rules-answer q = ap (λ (z : Dispatcher). rulesAnswer z q) (usable-is h held s range good) ∙ read-as h held s range (λ h s. answerOf (h .table) (h .counts) q s)
 
 -- ---- an answer, written and read back
 
@@ -74,10 +74,13 @@ answer-read S x s mask flag few =
     λ k. record { letIn = λ i. bits-of (a .letIn) none i k; ran = a .ran; phase = a .phase; piece = a .piece; ended = a .ended; finished = a .finished }
 
 -- ---- demand 3
-module _ (S : Tasks) (x : Choice) (ready : Ready S x) (d : ℕ → Dispatcher) (mask : ℕ → ℕ) (flag : ℕ → Bool) (r : ℕ → code.Answer)
+module _ (S : Tasks) (x : Choice) (may : Startable S x) (d : ℕ → Dispatcher) (mask : ℕ → ℕ) (flag : ℕ → Bool) (r : ℕ → code.Answer)
     (begins : d 0 ≡ readyRecord S x) (ticks : (t : ℕ) → Ticks (d t) (mask t) (flag t) (d (suc t)) (r t)) where
-  abbrev table : WithCounts S x
-  table = record { table = ready .table; counts = ready .counts }
+  abbrev h : Held
+  h = heldFor S x
+
+  abbrev held : HeldIn h
+  held = may .held
 
   abbrev ask : ℕ → Request
   ask t = requestOf (mask t) (flag t)
@@ -87,27 +90,27 @@ module _ (S : Tasks) (x : Choice) (ready : Ready S x) (d : ℕ → Dispatcher) (
 
   sane : Sane S
   sane = record {
-    some-task = ready .some-task;
-    D-least = λ i l. table .table .task i l .deadline-least;
-    D-most = λ i l. table .table .task i l .deadline-most;
-    some-phase = λ i l. table .table .task i l .phases-least;
-    some-work = λ i j l k. table .table .phase i j l k .work-least;
+    some-task = may .some-task;
+    D-least = λ i l. held .table .task i l .deadline-least;
+    D-most = λ i l. held .table .task i l .deadline-most;
+    some-phase = λ i l. held .table .task i l .phases-least;
+    some-work = λ i j l k. held .table .phase i j l k .work-least;
   }
 
   good : (t : ℕ) → Proper S x (at t)
-  good = proper S x (table-ranged S x table) ask
+  good = proper S x (table-ranged h held) ask
 
   ranges : (t : ℕ) → Range S (at t)
   unfolding recordAt
-  ranges zero = initial-range S x (table-ranged S x table)
-  ranges (suc t) = tick-range S x (table-ranged S x table) (ask t) (at t) (good t) (ranges t)
+  ranges zero = initial-range S x (table-ranged h held)
+  ranges (suc t) = tick-range S x (table-ranged h held) (ask t) (at t) (good t) (ranges t)
 
   -- the record before tick t is that of the rules
-  pub record-is : (t : ℕ) → d t ≡ recordOf S x (at t)
+  pub record-is : (t : ℕ) → d t ≡ recordOf h (at t)
   unfolding recordAt
   record-is zero = begins
   record-is (suc t) =
-      ticks t .moved ∙ ap (λ (z : Dispatcher). recordAfter (usable z) (ask t)) (record-is t) ∙ record-after S x table (at t) (ranges t) (good t) (ask t)
+      ticks t .moved ∙ ap (λ (z : Dispatcher). recordAfter (usable z) (ask t)) (record-is t) ∙ record-after h held (at t) (ranges t) (good t) (ask t)
 
   -- and its answer that of the rules
   pub answer-is : (t : ℕ) → answerIn (r t) ≡ answerAt S x ask t
@@ -115,10 +118,10 @@ module _ (S : Tasks) (x : Choice) (ready : Ready S x) (d : ℕ → Dispatcher) (
   answer-is t =
       ap answerIn (ticks t .answered) ∙
       ap (λ (z : Dispatcher). answerIn (answerFor (mask t) (rulesAnswer (usable z) (ask t)))) (record-is t) ∙
-      ap (λ (a : Answer). answerIn (answerFor (mask t) a)) (rules-answer S x table (at t) (ranges t) (good t) (ask t)) ∙
-      answer-read S x (at t) (mask t) (flag t) (table .table .tasks)
+      ap (λ (a : Answer). answerIn (answerFor (mask t) a)) (rules-answer h held (at t) (ranges t) (good t) (ask t)) ∙
+      answer-read S x (at t) (mask t) (flag t) (held .table .tasks)
 
   pub record-kept : Kept S x ask (λ t. answerIn (r t))
   record-kept =
       subst (Kept S x ask) (λ k t. sym (answer-is t) k)
-      (kept S sane x (λ i j l k. table .counts .count-least i j l k) (λ i j l k. table .counts .count-most i j l k) (ready .works) ask)
+      (kept S sane x (λ i j l k. held .counts .count-least i j l k) (λ i j l k. held .counts .count-most i j l k) (may .works) ask)

@@ -1,4 +1,4 @@
--- A record with the same table in another state. The record is written once, in `withJobs`: another field of it is a change there only.
+-- A record that holds the same in another state.
 -- Assumes nothing.
 use mathlib.Core.Path.{_≡_, refl, sym, ap, _∙_}
 use mathlib.Core.List.{List}
@@ -10,7 +10,7 @@ use lib.Seq.{set-getD}
 use Rattle.finite.specs.Masks.{digit}
 use Rattle.finite.specs.Finite.{listTo}
 use Rattle.finite.specs.laws.Lists.{filled, filled-all, filled-rest, getD-list}
-use Rattle.records.specs.Record.{stateIn}
+use Rattle.records.specs.Record.{fixedIn, recordWith, stateIn}
 use Rattle.records.specs.declared.Dispatcher.{Dispatcher}
 use Rattle.records.specs.laws.Fields.{Fields, Long}
 use Rattle.records.specs.laws.Views.{record-of-views}
@@ -19,22 +19,7 @@ use Rattle.promise.specs.Rules.{State}
 
 -- the same table with other jobs, running task and ticks left of its piece
 abbrev pub withJobs : Dispatcher → List ℕ → List ℕ → List ℕ → List ℕ → List ℕ → ℕ → ℕ → Dispatcher
-withJobs d since unfinished left phase piece running ticks = record {
-  tasks = d .tasks;
-  spacing = d .spacing;
-  deadline = d .deadline;
-  phases = d .phases;
-  work = d .work;
-  cost = d .cost;
-  counts = d .counts;
-  since = since;
-  unfinished = unfinished;
-  left = left;
-  phase = phase;
-  piece = piece;
-  running = running;
-  ticks = ticks;
-}
+withJobs d = recordWith (fixedIn d)
 
 -- the same record with another running task and its ticks
 abbrev pub withRun : Dispatcher → ℕ → ℕ → Dispatcher

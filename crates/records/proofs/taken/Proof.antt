@@ -13,34 +13,28 @@ use Rattle.records.proofs.taken.Tie as tie
 long : (s : tie.Start) → Long (s .args .t1)
 long s = search needs
 
--- from call to call, back to the start: a step for each array lent
+-- from call to call, back to the start, however many arrays were lent on the way
 abbrev start : tie.After-running-in → tie.Start
-start c =
-    let d = c .before .before .before .before in
-    d .before .before .before .before
+start c = search needs
 
-abbrev running : tie.After-table-in → tie.After-running-in
-running c =
-    let d = c .before .before .before .before in
-    d .before .before .before .before
+abbrev running : tie.After-held-in → tie.After-running-in
+running c = search needs
 
-abbrev table : tie.After-changing-in → tie.After-table-in
-table c =
-    let d = c .before .before .before .before .before in
-    d .before .before .before .before .before .before
+abbrev held : tie.After-changing-in → tie.After-held-in
+held c = search needs
 
 running-in-requires : tie.Need-running-in-requires
 running-in-requires c κs = search needs
 
-table-in-requires : tie.Need-table-in-requires
-table-in-requires c κs = search needs
+held-in-requires : tie.Need-held-in-requires
+held-in-requires c κs = search needs
 
 changing-in-requires : tie.Need-changing-in-requires
 changing-in-requires c κs = search needs
 
 -- the three tests are the range
-whole : (c : tie.After-changing-in) → (table c .table-in .result && c .changing-in .result && running (table c) .running-in .result) ≡ inRange (start (running (table c)) .args .t1)
-whole c = tested-by _ (long (start (running (table c)))) _ _ _ (table c .table-in .ensures) (c .changing-in .ensures) (running (table c) .running-in .ensures)
+whole : (c : tie.After-changing-in) → (held c .held-in .result && c .changing-in .result && running (held c) .running-in .result) ≡ inRange (start (running (held c)) .args .t1)
+whole c = tested-by _ (long (start (running (held c)))) _ _ _ (held c .held-in .ensures) (c .changing-in .ensures) (running (held c) .running-in .ensures)
 
 empty-requires : tie.Need-empty-requires
 empty-requires c κs = search needs
@@ -49,7 +43,7 @@ returns : tie.Need-returns
 returns c = taken-out _ _ _ (whole (c .before .before)) (c .before .if1 .taken) (c .empty .ensures)
 
 returns-2 : tie.Need-returns-2
-returns-2 c = taken-in _ (long (start (running (table (c .before))))) _ (whole (c .before)) (c .if1 .left)
+returns-2 c = taken-in _ (long (start (running (held (c .before))))) _ (whole (c .before)) (c .if1 .left)
 
 pub taken-spec : {M : Type 1} → statement M
-taken-spec = tie.close (tie.spec running-in-requires table-in-requires changing-in-requires empty-requires returns returns-2)
+taken-spec = tie.close (tie.spec running-in-requires held-in-requires changing-in-requires empty-requires returns returns-2)

@@ -5,42 +5,44 @@ use mathlib.Core.Bool.{true, false}
 use Prim.Native.Nat.{ℕ, zero, suc, _≤_}
 use native.Mathlib.Omega.{arith}
 use Rattle.finite.specs.Finite.{allTo, listTo}
+use Rattle.model.specs.Arrays.{emptyArrays}
 use Rattle.model.specs.Ranges.{tableTest}
-use Rattle.model.specs.laws.Ranges.{none-alike}
 use Rattle.promise.specs.laws.Range.{Zeros}
-use Rattle.records.specs.Ranges.{inRange}
-use Rattle.records.specs.Record.{countsIn, emptyRecord, recordOf, stateIn, tasksIn}
+use Rattle.records.specs.Ranges.{heldTest, inRange}
+use Rattle.records.specs.Record.{emptyRecord, heldIn, recordOf, stateIn, tasksIn}
 use Rattle.records.specs.declared.Dispatcher.{Dispatcher}
 use Rattle.records.specs.laws.Fields.{Fields, Long}
+use Rattle.records.specs.laws.Held.{none-held}
 use Rattle.records.specs.laws.InRange.{range-fields}
 use Rattle.records.specs.laws.Recorded.{record-long}
 use Rattle.records.specs.laws.Views.{record-of-views}
 
 -- it is read as it was written, so its arrays have their lengths
-empty-views : recordOf (tasksIn emptyRecord) (countsIn emptyRecord) (stateIn emptyRecord) ≡ emptyRecord
-unfolding listTo
+empty-views : recordOf (heldIn emptyRecord) (stateIn emptyRecord) ≡ emptyRecord
+unfolding listTo emptyArrays
 empty-views = refl
 
 pub empty-long : Long emptyRecord
-empty-long = subst Long empty-views (record-long (tasksIn emptyRecord) (countsIn emptyRecord) (stateIn emptyRecord))
+empty-long = subst Long empty-views (record-long (heldIn emptyRecord) (stateIn emptyRecord))
 
 pub empty-in-range : inRange emptyRecord ≡ true
-unfolding inRange tableTest allTo
+unfolding inRange heldTest tableTest allTo emptyArrays
 empty-in-range = refl
+
+empty-none : emptyRecord .tasks ≡ 0
+unfolding emptyArrays
+empty-none = refl
 
 -- a record in range without a task has 0 everywhere
 module _ (d : Dispatcher) (f : Fields d) (z : d .tasks ≡ 0) where
   none : (i : ℕ) → tasksIn d .n ≤ i
   none i = omega arith
 
-  no-count : (i j : ℕ) → countsIn d i j ≡ 0
-  no-count i j = f .table .counts .no-count i j (omega (arith, f .table .table .no-task i (none i) .no-phases))
-
   idle : (i : ℕ) → stateIn d .busy i ≡ false
   idle i = f .state .none i (none i)
 
   no-since : (i : ℕ) → stateIn d .since i ≡ 0
-  no-since i = omega (arith, f .state .since i, f .table .table .no-task i (none i) .no-spacing)
+  no-since i = omega (arith, f .state .since i, f .held .table .no-task i (none i) .no-spacing)
 
   zeros : (i : ℕ) → Zeros (stateIn d) i
   zeros i = f .state .idle i (idle i)
@@ -56,7 +58,7 @@ module _ (d : Dispatcher) (f : Fields d) (z : d .tasks ≡ 0) where
 pub empty-alone : (d : Dispatcher) → Long d → inRange d ≡ true → d .tasks ≡ 0 → d ≡ emptyRecord
 empty-alone d long e z =
     sym (record-of-views d long (f .binary)) ∙
-    (λ k. recordOf (table k) (λ i j. (no-count d f z i j ∙ sym (no-count emptyRecord g refl i j)) k) (state k)) ∙
+    (λ k. recordOf (held k) (state k)) ∙
     empty-views
   where
     f : Fields d
@@ -65,17 +67,17 @@ empty-alone d long e z =
     g : Fields emptyRecord
     g = range-fields emptyRecord empty-long empty-in-range
 
-    table : tasksIn d ≡ tasksIn emptyRecord
-    table = none-alike (tasksIn d) (tasksIn emptyRecord) (f .table .table) (g .table .table) z refl
+    held : heldIn d ≡ heldIn emptyRecord
+    held = none-held (heldIn d) (heldIn emptyRecord) (f .held) (g .held) z empty-none
 
     state : stateIn d ≡ stateIn emptyRecord
     state = λ k.
         record {
-          busy = λ i. (idle d f z i ∙ sym (idle emptyRecord g refl i)) k;
-          since = λ i. (no-since d f z i ∙ sym (no-since emptyRecord g refl i)) k;
-          left = λ i. (zeros d f z i .left ∙ sym (zeros emptyRecord g refl i .left)) k;
-          phase = λ i. (zeros d f z i .phase ∙ sym (zeros emptyRecord g refl i .phase)) k;
-          piece = λ i. (zeros d f z i .piece ∙ sym (zeros emptyRecord g refl i .piece)) k;
+          busy = λ i. (idle d f z i ∙ sym (idle emptyRecord g empty-none i)) k;
+          since = λ i. (no-since d f z i ∙ sym (no-since emptyRecord g empty-none i)) k;
+          left = λ i. (zeros d f z i .left ∙ sym (zeros emptyRecord g empty-none i .left)) k;
+          phase = λ i. (zeros d f z i .phase ∙ sym (zeros emptyRecord g empty-none i .phase)) k;
+          piece = λ i. (zeros d f z i .piece ∙ sym (zeros emptyRecord g empty-none i .piece)) k;
           run = still d f z k;
           ticks = f .state .rest (still d f z) k;
         }

@@ -2,7 +2,7 @@
 -- Assumes nothing.
 use mathlib.Core.Path.{_≡_, refl, sym, ap, _∙_}
 use mathlib.Core.Bool.{Bool, true, false, cond, _&&_, true≢false}
-use Prim.Native.Nat.{ℕ, zero, suc, _-_, _/_, _%_, _≤_, _<_}
+use Prim.Native.Nat.{ℕ, zero, suc, _-_, _≤_, _<_}
 use native.Mathlib.Decide.{decLt}
 use native.Mathlib.Omega.{arith}
 use lib.Dec.{leb, eqb}
@@ -10,18 +10,19 @@ use lib.ListN.{getD}
 use Rattle.finite.specs.Finite.{Below, allTo}
 use Rattle.finite.specs.laws.Decided.{both, by-test, every, restated, three, within-decides}
 use Rattle.finite.specs.laws.Tests.{Decides, by-cases, eqb-decides, leb-decides, ltb-decides}
-use Rattle.model.specs.Phase.{Choice, phasesOf}
-use Rattle.model.specs.Ranges.{InTable, within}
+use Rattle.model.specs.Phase.{Choice}
+use Rattle.model.specs.Ranges.{within}
 use Rattle.model.specs.Tasks.{Tasks}
-use Rattle.model.specs.laws.Arrays.{phase-none}
-use Rattle.model.specs.laws.Ranges.{beyond, few-of, phase-past, places-decide, table-decides, under}
+use Rattle.model.specs.laws.Arrays.{beyond}
 use Rattle.promise.specs.Rules.{State, stated}
 use Rattle.promise.specs.laws.Range.{Range}
 use Rattle.promise.specs.laws.Remaining.{Proper, RunsAt}
-use Rattle.records.specs.Ranges.{CountsIn, changingTest, countTest, inRange}
-use Rattle.records.specs.Record.{arraysIn, countsIn, stateIn, tasksIn}
+use Rattle.records.specs.Ranges.{HeldIn, changingTest, inRange}
+use Rattle.records.specs.Record.{countsIn, heldIn, stateIn, tasksIn}
 use Rattle.records.specs.declared.Dispatcher.{Dispatcher}
 use Rattle.records.specs.laws.Fields.{Fields, Long}
+use Rattle.records.specs.laws.Held.{held-decides}
+use Rattle.records.specs.laws.Lent.{itself}
 
 -- ---- what each test says
 
@@ -38,9 +39,6 @@ JobP unfinished D m x left phase piece =
 abbrev pub RunP : ℕ → ℕ → Bool → ℕ → ℕ → Type 0
 RunP run n unfinished ticks most =
     (run ≡ 0 → ticks ≡ 0) × (¬ (run ≡ 0) → (run ≤ n) × (unfinished ≡ true) × Within 1 most ticks)
-
-pub itself : (b : Bool) → Decides b (b ≡ true)
-itself b = (λ e. e, λ e. e)
 
 pub job-decides : (b : Bool) (D m x left phase piece : ℕ)
     → Decides (cond b (leb left D && within 1 m phase && within 1 x piece) (eqb left 0 && eqb phase 0 && eqb piece 0)) (JobP b D m x left phase piece)
@@ -90,17 +88,8 @@ module _ (d : Dispatcher) where
       (three (leb-decides (s .since i) (S .T i)) (leb-decides (getD (d .unfinished) i 0) 1) (job-decides (s .busy i) (S .D i) (S .m i) (x i (s .phase i - 1)) (s .left i) (s .phase i) (s .piece i)))
       (both (both (both (both (eqb-decides (s .since i) 0) (eqb-decides (getD (d .unfinished) i 0) 0)) (eqb-decides (s .left i) 0)) (eqb-decides (s .phase i) 0)) (eqb-decides (s .piece i) 0))
 
-  counts-decide : Long d → InTable S → Decides (allTo 256 (λ p. countTest S x (p / 8) (p % 8))) (CountsIn S x)
-  counts-decide long t =
-      restated
-      (λ h. record { count-least = λ i j l k. h .0 i j l k .0; count-most = λ i j l k. h .0 i j l k .1; no-count = h .1 })
-      (λ c. (λ i j l k. (c .count-least i j l k, c .count-most i j l k), c .no-count))
-      (places-decide S (few-of S t) (countTest S x) (λ i j. Within 1 (phasesOf S .most i j) (x i j)) (λ i j. x i j ≡ 0)
-      (λ i j. by-test (ltb-decides j (S .m i)) (within-decides 1 (phasesOf S .most i j) (x i j)) (eqb-decides (x i j) 0))
-      (λ i j h. phase-past (d .counts) i j (long .counts) h) (λ i j h. phase-none (d .counts) i j h))
-
   -- ---- the fields, from the tests
-  module _ (long : Long d) (t : InTable S) (now : Below 32 ChangingP) (run : RunAt) where
+  module _ (long : Long d) (held : HeldIn (heldIn d)) (now : Below 32 ChangingP) (run : RunAt) where
     absent : (i : ℕ) → S .n ≤ i → AbsentP i
     absent i h = go (decLt i 32)
       where
@@ -117,7 +106,7 @@ module _ (d : Dispatcher) where
     any i = go (decLt i (S .n))
       where
         go : Dec (i < S .n) → NowP i
-        go (yes l) = now i (omega (arith, t .tasks)) .0 l
+        go (yes l) = now i (omega (arith, held .table .tasks)) .0 l
         go (no l) =
             let z = absent i (omega arith) in
             (omega (arith, z .0 .0 .0 .0), omega (arith, z .0 .0 .0 .1), (λ b. absurd (untrue (s .busy i) (not-busy i (z .0 .0 .0 .1)) b), λ b. (z .0 .0 .1, z .0 .1, z .1)))
@@ -148,8 +137,8 @@ module _ (d : Dispatcher) where
       runs = runs;
     }
 
-    fields-from : CountsIn S x → Fields d
-    fields-from c = record { table = record { table = t; counts = c }; state = state; jobs = jobs; binary = λ i. any i .1 }
+    fields-from : Fields d
+    fields-from = record { held = held; state = state; jobs = jobs; binary = λ i. any i .1 }
 
   -- ---- the tests, from the fields
   module _ (f : Fields d) where
@@ -189,7 +178,7 @@ module _ (d : Dispatcher) where
       λ l.
           let h : S .n ≤ i = omega arith in
           let z = f .state .idle i (f .state .none i h) in
-          ((((omega (arith, f .state .since i, f .table .table .no-task i h .no-spacing), unfinished-none i h), z .left), z .phase), z .piece),
+          ((((omega (arith, f .state .since i, f .held .table .no-task i h .no-spacing), unfinished-none i h), z .left), z .phase), z .piece),
     )
 
   -- THE TEST DECIDES THE RANGE
@@ -197,10 +186,9 @@ module _ (d : Dispatcher) where
   unfolding inRange
   range-decides long =
       restated
-      (λ h. fields-from long (h .0 .0 .0) (h .0 .1) (h .1) (h .0 .0 .1))
-      (λ f. (((f .table .table, f .table .counts), λ i l. now-of f i), run-of f))
-      (both (both (under _ (table-decides (arraysIn d) (long .table)) (counts-decide long))
-      (every 32 (changingTest d) ChangingP changing-decides))
+      (λ h. fields-from long (h .0 .0) (h .0 .1) (h .1))
+      (λ f. ((f .held, λ i l. now-of f i), run-of f))
+      (both (both (held-decides d long) (every 32 (changingTest d) ChangingP changing-decides))
       (run-decides (s .run) (S .n) (s .busy (s .run - 1)) (s .ticks) (stated S x (s .run - 1) (s .phase (s .run - 1)) (s .piece (s .run - 1)))))
 
 pub range-fields : (d : Dispatcher) → Long d → inRange d ≡ true → Fields d

@@ -2,48 +2,29 @@
 -- Assumes nothing.
 use mathlib.Core.Path.{_≡_, refl, sym, ap, _∙_}
 use mathlib.Core.Bool.{Bool, true, false, _&&_, true≢false}
-use Prim.Native.Nat.{ℕ, zero, suc, _-_, _/_, _%_, _≤_, _<_}
+use Prim.Native.Nat.{ℕ, zero, suc, _-_, _≤_, _<_}
 use native.Mathlib.Decide.{decLt}
 use native.Mathlib.Omega.{arith}
-use lib.Dec.{leb, eqb}
+use lib.Dec.{eqb}
 use lib.ListN.{getD}
 use Rattle.arrays.specs.Rules.{ticksOf}
 use Rattle.finite.specs.Finite.{Below, allTo}
 use Rattle.finite.specs.laws.Decided.{alike, both, by-test, every, restated, three, within-decides}
 use Rattle.finite.specs.laws.Tests.{Decides, and-both, by-cases, eqb-decides, leb-decides}
 use Rattle.model.specs.Phase.{Choice}
-use Rattle.model.specs.Ranges.{InTable, phaseTest, tableTest, taskTest, tasksMost}
+use Rattle.model.specs.Ranges.{InTable}
 use Rattle.model.specs.Tasks.{Tasks}
-use Rattle.model.specs.laws.Ranges.{few-of, table-decides}
+use Rattle.model.specs.laws.Ranges.{few-of}
 use Rattle.promise.specs.Rules.{State, stated}
-use Rattle.records.specs.Lent.{changingAll, jobAt, pieceAt, place-is, placeAt, runIn, sinceAt, tableAll}
-use Rattle.records.specs.Ranges.{changingTest, countTest, inRange, runTest}
-use Rattle.records.specs.Record.{arraysIn, countsIn, stateIn, tasksIn}
+use Rattle.records.specs.Lent.{changingAll, jobAt, pieceAt, runIn, sinceAt}
+use Rattle.records.specs.Ranges.{changingTest, heldTest, inRange, runTest}
+use Rattle.records.specs.Record.{countsIn, heldIn, stateIn, tasksIn}
 use Rattle.records.specs.declared.Dispatcher.{Dispatcher}
 use Rattle.records.specs.laws.Fields.{Long}
-use Rattle.records.specs.laws.InRange.{ChangingP, NowP, RunP, Within, changing-decides, itself, run-decides, untrue}
+use Rattle.records.specs.laws.Held.{held-decides}
+use Rattle.records.specs.laws.Lent.{all-alike, all-both, itself}
+use Rattle.records.specs.laws.InRange.{ChangingP, NowP, RunP, Within, changing-decides, run-decides, untrue}
 use Rattle.records.specs.laws.Views.{due-of-views, dueTicks}
-
--- ---- tests of every place
-
-all-both : (n : ℕ) (p q : ℕ → Bool) → allTo n (λ i. p i && q i) ≡ (allTo n p && allTo n q)
-all-both n p q =
-    alike _ _
-    (every n (λ i. p i && q i) (λ i. (p i ≡ true) × (q i ≡ true)) (λ i. both (itself (p i)) (itself (q i))))
-    (restated
-    (λ t i l. (t .0 i l, t .1 i l))
-    (λ t. (λ i l. t i l .0, λ i l. t i l .1))
-    (both (every n p (λ i. p i ≡ true) (λ i. itself (p i))) (every n q (λ i. q i ≡ true) (λ i. itself (q i)))))
-
-all-alike : (n : ℕ) (p q : ℕ → Bool) → ((i : ℕ) → i < n → p i ≡ q i) → allTo n p ≡ allTo n q
-all-alike n p q e =
-    alike _ _
-    (every n p (λ i. p i ≡ true) (λ i. itself (p i)))
-    (restated (λ t i l. e i l ∙ t i l) (λ t i l. sym (e i l) ∙ t i l) (every n q (λ i. q i ≡ true) (λ i. itself (q i))))
-
-assoc : (a b c : Bool) → ((a && b) && c) ≡ (a && (b && c))
-assoc true b c = refl
-assoc false b c = refl
 
 -- a second test matters only where the first passes
 and-where : (a : Bool) {b c : Bool} → (a ≡ true → b ≡ c) → (a && b) ≡ (a && c)
@@ -60,6 +41,13 @@ run-alike run n u ticks m m′ e =
     go : (a b : ℕ) → (¬ (run ≡ 0) → run ≤ n → u ≡ true → a ≡ b) → RunP run n u ticks a → RunP run n u ticks b
     go a b f r = (r .0, λ h. let t = r .1 h in (t .0, t .1, (t .2 .0, omega (arith, t .2 .1, f h (t .0) (t .1)))))
 
+-- the code's test of what a tick changes, and of the running piece
+abbrev pub changingOk : Dispatcher → Bool
+changingOk d = changingAll (d .spacing) (d .deadline) (d .phases) (d .counts) (d .since) (d .unfinished) (d .left) (d .phase) (d .piece)
+
+abbrev pub runOk : Dispatcher → Bool
+runOk d = runIn (d .running) (d .tasks) (eqb (getD (d .unfinished) (d .running - 1) 0) 1) (d .ticks) (ticksOf (d .phase) (d .piece) (d .work) (d .cost) (d .counts) (d .running))
+
 module _ (d : Dispatcher) (long : Long d) where
   abbrev S : Tasks
   S = tasksIn d
@@ -69,16 +57,6 @@ module _ (d : Dispatcher) (long : Long d) where
 
   abbrev s : State
   s = stateIn d
-
-  -- ---- the phases with their counts
-
-  abbrev placeOk : ℕ → Bool
-  placeOk = placeAt (arraysIn d) (d .counts)
-
-  places-are : allTo 256 placeOk ≡ (allTo 256 (λ p. phaseTest S (p / 8) (p % 8)) && allTo 256 (λ p. countTest S x (p / 8) (p % 8)))
-  places-are =
-      all-alike 256 placeOk (λ p. phaseTest S (p / 8) (p % 8) && countTest S x (p / 8) (p % 8)) (λ p l. place-is (arraysIn d) (d .counts) p) ∙
-      all-both 256 (λ p. phaseTest S (p / 8) (p % 8)) (λ p. countTest S x (p / 8) (p % 8))
 
   -- ---- what a tick changes
 
@@ -177,32 +155,18 @@ module _ (d : Dispatcher) (long : Long d) where
 
   -- ---- all of them
 
-  abbrev runOk : Bool
-  runOk = runIn (d .running) (d .tasks) (eqb (getD (d .unfinished) (d .running - 1) 0) 1) (d .ticks) (ticksOf (d .phase) (d .piece) (d .work) (d .cost) (d .counts) (d .running))
-
-  abbrev tableOk : Bool
-  tableOk = tableAll (arraysIn d) (d .counts)
-
-  abbrev changingOk : Bool
-  changingOk = changingAll (d .spacing) (d .deadline) (d .phases) (d .counts) (d .since) (d .unfinished) (d .left) (d .phase) (d .piece)
-
-  together : ((tableOk && changingOk) && runOk) ≡ inRange d
-  unfolding inRange tableTest
+  together : ((heldTest (heldIn d) && changingOk d) && runOk d) ≡ inRange d
+  unfolding inRange
   together =
-      let A : Bool = leb (d .tasks) tasksMost && allTo 32 (taskTest S) in
-      let N : Bool = allTo 256 (λ p. phaseTest S (p / 8) (p % 8)) in
-      let C : Bool = allTo 256 (λ p. countTest S x (p / 8) (p % 8)) in
-      let W : Bool = (A && N) && C in
-      let table : tableOk ≡ W = ap (λ b. A && b) places-are ∙ sym (assoc A N C) in
-      let in-table : W ≡ true → InTable S = λ e. table-decides (arraysIn d) (long .table) .0 (and-both (A && N) C e .0) in
-      ap (λ b. (b && changingOk) && runOk) table ∙
-      ap (λ b. b && runOk) (and-where W (λ e. changing-are (in-table e))) ∙
+      let W : Bool = heldTest (heldIn d) in
+      let in-table : W ≡ true → InTable S = λ e. held-decides d long .0 e .table in
+      ap (λ b. b && runOk d) (and-where W (λ e. changing-are (in-table e))) ∙
       and-where (W && allTo 32 (changingTest d))
       (λ e.
       let t = and-both W (allTo 32 (changingTest d)) e in
       run-is (in-table (t .0)) (every 32 (changingTest d) (ChangingP d) (changing-decides d) .0 (t .1)))
 
--- THE CODE'S TEST, from what it computes one by one
-pub tested-by : (d : Dispatcher) (long : Long d) (table changing runs : Bool)
-    → table ≡ tableOk d long → changing ≡ changingOk d long → runs ≡ runOk d long → ((table && changing) && runs) ≡ inRange d
-tested-by d long table changing runs a b c = rw (a, b, c) (together d long)
+-- from what it computes one by one
+pub tested-by : (d : Dispatcher) (long : Long d) (held changing runs : Bool)
+    → held ≡ heldTest (heldIn d) → changing ≡ changingOk d → runs ≡ runOk d → ((held && changing) && runs) ≡ inRange d
+tested-by d long held changing runs a b c = rw (a, b, c) (together d long)

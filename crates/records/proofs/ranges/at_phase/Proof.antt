@@ -21,10 +21,10 @@ element-copy-out-result c = search needs
 returns : tie.Need-returns
 returns c =
     let b = c .before in
-    sym (phase-at (now (b .before .args .a)) _ _ (b .if1 .taken))
+    sym (phase-at (now (b .before .args .numbers)) _ _ (b .if1 .taken))
 
 returns-2 : tie.Need-returns-2
-returns-2 c = sym (phase-none (now (c .before .args .a)) _ _ (c .if1 .left))
+returns-2 c = sym (phase-none (now (c .before .args .numbers)) _ _ (c .if1 .left))
 
 pub at-phase-spec : {M : Type 1} → statement M
 at-phase-spec =

@@ -9,23 +9,23 @@ mul-flag c = search needs
 element-copy-out-flag : tie.Need-element-copy-out-flag
 element-copy-out-flag c = search needs
 
-mul-l : tie.Need-mul-l
-mul-l c = search needs
+mul-time : tie.Need-mul-time
+mul-time c = search needs
 
-element-copy-out-l : tie.Need-element-copy-out-l
-element-copy-out-l c = search needs
+element-copy-out-time : tie.Need-element-copy-out-time
+element-copy-out-time c = search needs
 
-mul-j : tie.Need-mul-j
-mul-j c = search needs
+mul-due-phase : tie.Need-mul-due-phase
+mul-due-phase c = search needs
 
-element-copy-out-j : tie.Need-element-copy-out-j
-element-copy-out-j c = search needs
+element-copy-out-due-phase : tie.Need-element-copy-out-due-phase
+element-copy-out-due-phase c = search needs
 
-mul-k : tie.Need-mul-k
-mul-k c = search needs
+mul-due-piece : tie.Need-mul-due-piece
+mul-due-piece c = search needs
 
-element-copy-out-k : tie.Need-element-copy-out-k
-element-copy-out-k c = search needs
+element-copy-out-due-piece : tie.Need-element-copy-out-due-piece
+element-copy-out-due-piece c = search needs
 
 mul-there : tie.Need-mul-there
 mul-there c = search needs
@@ -51,12 +51,12 @@ job-at-spec =
     (tie.spec
     mul-flag
     element-copy-out-flag
-    mul-l
-    element-copy-out-l
-    mul-j
-    element-copy-out-j
-    mul-k
-    element-copy-out-k
+    mul-time
+    element-copy-out-time
+    mul-due-phase
+    element-copy-out-due-phase
+    mul-due-piece
+    element-copy-out-due-piece
     mul-there
     element-copy-out-there
     mul-there-2

@@ -3,11 +3,11 @@ use borrow.Author.Needs.{needs}
 use Rattle.records.proofs.ranges.piece_at.Statement.{statement}
 use Rattle.records.proofs.ranges.piece_at.Tie as tie
 
-mul-k : tie.Need-mul-k
-mul-k c = search needs
+mul-due-piece : tie.Need-mul-due-piece
+mul-due-piece c = search needs
 
-element-copy-out-k : tie.Need-element-copy-out-k
-element-copy-out-k c = search needs
+element-copy-out-due-piece : tie.Need-element-copy-out-due-piece
+element-copy-out-due-piece c = search needs
 
 mul-down : tie.Need-mul-down
 mul-down c = search needs
@@ -33,8 +33,8 @@ pub piece-at-spec : {M : Type 1} → statement M
 piece-at-spec =
     tie.close
     (tie.spec
-    mul-k
-    element-copy-out-k
+    mul-due-piece
+    element-copy-out-due-piece
     mul-down
     element-copy-out-down
     down-requires

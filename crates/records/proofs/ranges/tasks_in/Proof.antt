@@ -4,18 +4,17 @@ use Prim.Native.Nat.{_-_, _≤_}
 use native.Mathlib.Omega.{arith}
 use Rattle.finite.specs.Finite.{allTo}
 use Rattle.finite.specs.laws.Lists.{all-none, all-more}
-use Rattle.model.specs.Arrays.{asTasks}
+use Rattle.model.specs.Arrays.{asTasks, tasksAlone}
 use Rattle.model.specs.Ranges.{taskTest}
-use Rattle.records.specs.Lent.{numbersAs}
 use borrow.Author.Needs.{needs}
 use Rattle.records.proofs.ranges.tasks_in.Statement.{statement}
 use Rattle.records.proofs.ranges.tasks_in.Tie as tie
 
 abbrev Inv-loop : tie.InvT-loop
-Inv-loop n spacing deadline phases ok₀ i₀ ok i = (i ≤ 32) × (ok ≡ allTo i (taskTest (asTasks (numbersAs n spacing deadline phases))))
+Inv-loop tasks spacing deadline phases ok₀ i₀ ok i = (i ≤ 32) × (ok ≡ allTo i (taskTest (asTasks (tasksAlone tasks spacing deadline phases))))
 
 abbrev μ-loop : tie.MeasureT-loop
-μ-loop n spacing deadline phases ok₀ i₀ ok i = 32 - i
+μ-loop tasks spacing deadline phases ok₀ i₀ ok i = 32 - i
 
 loop-holds : tie.Need-loop-holds Inv-loop μ-loop
 loop-holds c = (search needs, all-none _)
