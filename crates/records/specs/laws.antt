@@ -5,6 +5,7 @@ pub mod Lent
 pub mod InRange
 pub mod Views
 pub mod Recorded
+pub mod Ready
 pub mod Empty
 pub mod Tested
 pub mod Taken

@@ -1,12 +1,18 @@
-// The dispatcher's record, held by value, and the test of its range.
+// The dispatcher's record, held by value: the empty one, the one to start with, and the test of its range.
 mod ranges;
 
 use crate::ranges::changing_in;
 use crate::ranges::held_in;
 use crate::ranges::running_in;
+use table::Table;
 ghost use mathlib.Core.Path.{_≡_};
+ghost use Prim.Native.Nat.{_≤_};
+ghost use Rattle.model.specs.Arrays.{phaseAt};
+ghost use Rattle.model.specs.Ranges.{tasksMost};
 ghost use Rattle.records.specs.Record.{emptyRecord};
+ghost use Rattle.records.specs.Start.{readyRecord};
 ghost use Rattle.records.specs.Taken.{Taken};
+ghost use Rattle.table.specs.TaskModel.{tasksOf};
 
 // The record. T, D and the number of phases of each task; c, q and the count of each phase, eight places for each task; then what a tick changes:
 // the ticks since the last admitted release, whether a job is unfinished (1, else 0), its time left, its phase and piece; the running task and the
@@ -53,6 +59,36 @@ impl Dispatcher {
         ensures { λ r. ⌜ r ≡ emptyRecord ⌝ }
     {
         Dispatcher::EMPTY
+    }
+}
+
+// The record to start with: nothing is unfinished, and every task may release at once. (A layer's own call: the table was read, and the counts are
+// those of its judge.)
+pub fn ready(table: Table, counts: [u32; 256]) -> Dispatcher
+    requires { ⌜ table .tasks ≤ tasksMost ⌝ }
+    ensures { λ r. ⌜ r ≡ readyRecord (tasksOf table) (phaseAt counts) ⌝ }
+{
+    let tasks = table.tasks as u32;
+    let spacing = table.spacing;
+    let deadline = table.deadline;
+    let phases = table.phases;
+    let work = table.work;
+    let cost = table.cost;
+    Dispatcher {
+        tasks,
+        spacing,
+        deadline,
+        phases,
+        work,
+        cost,
+        counts,
+        since: spacing,
+        unfinished: [0; 32],
+        left: [0; 32],
+        phase: [0; 32],
+        piece: [0; 32],
+        running: 0,
+        ticks: 0,
     }
 }
 

@@ -1,4 +1,4 @@
 -- What is proved of the definitions beside this folder.
-pub mod ReadyRecord
+pub mod Counts
 pub mod Beginning
 pub mod Demand3

@@ -1,12 +1,12 @@
 // Starting the dispatcher on the bytes of a table.
 use records::Dispatcher;
+use records::ready;
 use table::Table;
 use walk::judge::Judged;
 ghost use Rattle.table.specs.TaskModel.{tasksOf};
 ghost use Rattle.table.specs.Valid.{Valid};
 ghost use Rattle.walk.specs.Judge.{WalkJudges};
 ghost use Rattle.start.specs.Start.{Begins, Starts};
-ghost use Rattle.start.specs.laws.ReadyRecord.{AtRest};
 
 // The dispatcher is ready; or the table is refused, with the witness, the demand there, the points examined, and the blocked task and phase; or it
 // is turned away, with the reason and the place.
@@ -21,48 +21,22 @@ pub struct Started {
     pub dispatcher: Dispatcher,
 }
 
-// The record at the start: nothing is unfinished, and every task may release at once.
-fn ready(t: Table, v: Judged) -> Dispatcher
-    requires { ⌜ Valid t ⌝ }
-    ensures { λ r. ⌜ AtRest t (v .counts) r ⌝ }
-{
-    let spacing = t.spacing;
-    let deadline = t.deadline;
-    let phases = t.phases;
-    let work = t.work;
-    let cost = t.cost;
-    let counts = v.counts;
-    Dispatcher {
-        tasks: t.tasks as u32,
-        spacing,
-        deadline,
-        phases,
-        work,
-        cost,
-        counts,
-        since: spacing,
-        unfinished: [0; 32],
-        left: [0; 32],
-        phase: [0; 32],
-        piece: [0; 32],
-        running: 0,
-        ticks: 0,
-    }
-}
-
 // What was judged of a table, as a start.
-fn begun(t: Table, v: Judged) -> Started
-    requires { ⌜ Valid t × WalkJudges (tasksOf t) v ⌝ }
-    ensures { λ r. ⌜ Begins (tasksOf t) r ⌝ }
+fn begun(read: Table, judged: Judged) -> Started
+    requires { ⌜ Valid read × WalkJudges (tasksOf read) judged ⌝ }
+    ensures { λ r. ⌜ Begins (tasksOf read) r ⌝ }
 {
-    if v.accepted {
+    if judged.accepted {
+        let counts = judged.counts;
         return Started {
             how: How::Ready,
-            dispatcher: ready(t, v),
+            dispatcher: ready(read, counts),
         };
     }
+    let task = judged.task as u32;
+    let phase = judged.phase as u32;
     Started {
-        how: How::Refused(v.witness, v.demand, v.points, v.task as u32, v.phase as u32),
+        how: How::Refused(judged.witness, judged.demand, judged.points, task, phase),
         dispatcher: Dispatcher::empty(),
     }
 }

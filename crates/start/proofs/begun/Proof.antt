@@ -6,28 +6,41 @@ use borrow.Author.Needs.{needs}
 use Rattle.start.proofs.begun.Statement.{statement}
 use Rattle.start.proofs.begun.Tie as tie
 use Rattle.start.specs.laws.Beginning.{accepted-begins, refused-begins, was-accepted, was-refused}
+use Rattle.walk.specs.Judge.{Accepts, Refuses}
+use Rattle.table.specs.TaskModel.{tasksOf}
+
+-- what the test of the verdict tells
+accepted : (c : tie.Then1) → Accepts (tasksOf (c .before .args .read)) (c .before .args .judged)
+accepted c = was-accepted _ _ (c .before .pre .1) (c .if1 .taken)
+
+refused : (c : tie.Else1) → Refuses (tasksOf (c .before .args .read)) (c .before .args .judged)
+refused c = was-refused _ _ (c .before .pre .1) (c .if1 .left)
 
 ready-requires : tie.Need-ready-requires
 ready-requires c κs = search needs
 
 returns : tie.Need-returns
 returns c =
-    let p = c .before .before .pre in
-    accepted-begins _ (p .0) _ _ (was-accepted _ _ (p .1) (c .before .if1 .taken)) refl (c .ready .ensures)
+    let t : tie.Then1 = search needs in
+    accepted-begins _ _ _ (accepted t) refl (c .ready .ensures)
 
-cast-t6 : tie.Need-cast-t6
-cast-t6 c = let b = was-refused _ _ (c .before .before .pre .1) (c .before .if1 .left) in omega (arith, b .task-most)
+cast-task : tie.Need-cast-task
+cast-task c =
+    let e : tie.Else1 = search needs in
+    omega (arith, refused e .task-most)
 
-cast-t7 : tie.Need-cast-t7
-cast-t7 c = let b = was-refused _ _ (c .before .before .before .pre .1) (c .before .before .if1 .left) in omega (arith, b .phase-most)
+cast-phase : tie.Need-cast-phase
+cast-phase c =
+    let e : tie.Else1 = search needs in
+    omega (arith, refused e .phase-most)
 
 empty-requires : tie.Need-empty-requires
 empty-requires c κs = search needs
 
 returns-2 : tie.Need-returns-2
 returns-2 c =
-    let p = c .before .before .before .before .pre in
-    refused-begins _ (p .0) _ _ (was-refused _ _ (p .1) (c .before .before .before .if1 .left)) refl (c .empty .ensures)
+    let e : tie.Else1 = search needs in
+    refused-begins _ _ _ (refused e) refl (c .empty .ensures)
 
 pub begun-spec : {M : Type 1} → statement M
-begun-spec = tie.close (tie.spec ready-requires returns cast-t6 cast-t7 empty-requires returns-2)
+begun-spec = tie.close (tie.spec ready-requires returns cast-task cast-phase empty-requires returns-2)

@@ -21,11 +21,10 @@ use Rattle.start.specs.Start.{Begins, StartedOn, Starts, used}
 use Rattle.start.specs.declared.How.{How}
 use Rattle.start.specs.declared.How.the-variants.{Ready, Refused, TurnedAway}
 use Rattle.start.specs.declared.Started.{Started}
-use Rattle.start.specs.laws.ReadyRecord.{AtRest, ready-is}
+use Rattle.start.specs.laws.Counts.{all-used}
 use Rattle.table.proofs.Valid.{read-valid}
 use Rattle.table.specs.Parse.{Result, away, got, table}
 use Rattle.table.specs.TaskModel.{tasksOf}
-use Rattle.table.specs.Valid.{Valid}
 use Rattle.table.specs.declared.Table.{Table}
 use Rattle.walk.proofs.Limits.{table-sane}
 use Rattle.walk.specs.Judge.{Accepts, Refuses, WalkJudges, accepts, refuses}
@@ -41,16 +40,16 @@ pub was-refused : (S : Tasks) (v : Judged) → WalkJudges S v → v .accepted �
 was-refused S v (accepts a) e = absurd (true≢false (sym (a .accepted) ∙ e))
 was-refused S v (refuses b) e = b
 
-module _ (t : Table) (valid : Valid t) (v : Judged) (r : Started) where
-  pub accepted-begins : Accepts (tasksOf t) v → r .how ≡ Ready → AtRest t (v .counts) (r .dispatcher) → Begins (tasksOf t) r
+module _ (S : Tasks) (v : Judged) (r : Started) where
+  pub accepted-begins : Accepts S v → r .how ≡ Ready → r .dispatcher ≡ readyRecord S (phaseAt (v .counts)) → Begins S r
   accepted-begins a how d = record {
     verdict = accepted (phaseAt (v .counts)) (v .points);
     judged = a .verdict;
-    started = (how, ready-is t valid (v .counts) (a .wide .0) (a .no-task) (a .no-phase) (r .dispatcher) d);
+    started = (how, d ∙ ap (readyRecord S) (sym (all-used S (v .counts) (a .no-task) (a .no-phase))));
   }
 
-  pub refused-begins : Refuses (tasksOf t) v → r .how ≡ Refused (v .witness) (v .demand) (v .points) (v .task) (v .phase) → r .dispatcher ≡ emptyRecord
-      → Begins (tasksOf t) r
+  pub refused-begins : Refuses S v → r .how ≡ Refused (v .witness) (v .demand) (v .points) (v .task) (v .phase) → r .dispatcher ≡ emptyRecord
+      → Begins S r
   refused-begins b how d = record {
     verdict = refused (v .witness) (v .demand) (v .points) (v .task) (v .phase);
     judged = b .verdict;

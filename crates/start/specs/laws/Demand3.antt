@@ -8,7 +8,8 @@ use native.Mathlib.Omega.{arith}
 use borrow.Author.Tests.{le-ltb, lt-ltb}
 use lib.Dec.{ltb}
 use Rattle.records.specs.Ranges.{CountsIn}
-use Rattle.records.specs.Start.{Ready as MayStart}
+use Rattle.records.specs.Start.{Startable}
+use Rattle.records.specs.laws.Held.{held-for}
 use Rattle.dispatch.specs.declared.Answer.{Answer}
 use Rattle.dispatch.specs.laws.RecordKept.{record-kept}
 use Rattle.model.specs.Phase.{Choice, phasesOf}
@@ -57,8 +58,8 @@ module _ (t : Table) (valid : Valid t) (x : Choice) (p : ℕ) (a : Accepted (tas
   counts-in : CountsIn S (used S x)
   counts-in = record { count-least = least-used .valid; count-most = most-used; no-count = used-none S x }
 
-  pub may-start : MayStart S (used S x)
-  may-start = record { some-task = valid .in-range .some-task; table = valid .in-range .items; counts = counts-in; works = least-used .good }
+  pub may-start : Startable S (used S x)
+  may-start = record { some-task = valid .in-range .some-task; held = held-for S (used S x) (valid .in-range .items) counts-in; works = least-used .good }
 
 module _ {bytes : List ℕ} {mask : ℕ → ℕ} {flag : ℕ → Bool} {answer : ℕ → Answer} (run : Run bytes mask flag answer) where
   of-verdict : (t : Table) (next : ℕ) → table bytes 0 ≡ got t next → (v : Verdict) → Judged (tasksOf t) (phasesOf (tasksOf t)) (horizonOf (tasksOf t)) v
