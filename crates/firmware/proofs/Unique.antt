@@ -7,14 +7,14 @@ use Rattle.edf.proofs.Unique.{judges-unique}
 use Rattle.start.specs.declared.Started as begun
 use Rattle.start.specs.laws.Beginning.{starts-one}
 use Rattle.firmware.specs.declared.Outcome.{Outcome}
-use Rattle.firmware.specs.declared.Started.{Started}
-use Rattle.firmware.specs.Interface.{toldOf, begunOf, JudgesInC, Starts}
+use Rattle.firmware.specs.declared.StartOutcome.{StartOutcome}
+use Rattle.firmware.specs.Interface.{judgeOutcomeOf, startOutcomeOf, JudgesInC, StartsInC}
 
-pub told-unique : {bytes before after after′ : List ℕ} {r r′ : Outcome} → JudgesInC bytes before after r → JudgesInC bytes before after′ r′ → (r ≡ r′) × (after ≡ after′)
-told-unique a b =
+pub outcome-unique : {bytes before after after′ : List ℕ} {r r′ : Outcome} → JudgesInC bytes before after r → JudgesInC bytes before after′ r′ → (r ≡ r′) × (after ≡ after′)
+outcome-unique a b =
     let e = judges-unique (a .judged) (b .judged) in
-    (a .returned ∙ ap toldOf (e .0) ∙ sym (b .returned), e .1)
+    (a .returned ∙ ap judgeOutcomeOf (e .0) ∙ sym (b .returned), e .1)
 
-pub begun-unique : {bytes : List ℕ} {r r′ : Started} → Starts bytes r → Starts bytes r′ → r ≡ r′
-begun-unique {bytes} a b =
-    a .returned ∙ ap (λ (s : begun.Started). begunOf (s .how) (s .dispatcher)) (starts-one bytes (a .begun) (b .begun) (a .starts) (b .starts)) ∙ sym (b .returned)
+pub start-unique : {bytes : List ℕ} {r r′ : StartOutcome} → StartsInC bytes r → StartsInC bytes r′ → r ≡ r′
+start-unique {bytes} a b =
+    a .returned ∙ ap (λ (s : begun.Started). startOutcomeOf (s .how) (s .dispatcher)) (starts-one bytes (a .begun) (b .begun) (a .starts) (b .starts)) ∙ sym (b .returned)

@@ -3,7 +3,7 @@ use dispatch::Answer;
 use records::Dispatcher;
 ghost use mathlib.Core.Path.{_≡_};
 ghost use Rattle.dispatch.specs.Tick.{Ticks};
-ghost use Rattle.firmware.specs.Interface.{JudgesInC, toldOf, Starts, begunOf, unrefused};
+ghost use Rattle.firmware.specs.Interface.{JudgesInC, judgeOutcomeOf, StartsInC, startOutcomeOf, unrefused};
 
 // What `clinkerbell_judge` returns: reason 0 and the answer's length, or the reason and the place.
 #[repr(C)]
@@ -14,8 +14,8 @@ pub struct Outcome {
 }
 
 // The enum as C has it.
-fn told(outcome: edf::JudgeOutcome) -> Outcome
-    ensures { λ r. ⌜ r ≡ toldOf outcome ⌝ }
+fn judge_outcome_of(outcome: edf::JudgeOutcome) -> Outcome
+    ensures { λ r. ⌜ r ≡ judgeOutcomeOf outcome ⌝ }
 {
     match outcome {
         edf::JudgeOutcome::Answered(length) => Outcome {
@@ -36,13 +36,13 @@ fn told(outcome: edf::JudgeOutcome) -> Outcome
 pub extern "C" fn clinkerbell_judge(table: &[u8], answer: &mut [u8]) -> Outcome
     ensures { λ r. ⌜ JudgesInC (now (table .entry)) (now (answer .entry)) (now (answer .exit)) r ⌝ }
 {
-    told(edf::judge(table, answer))
+    judge_outcome_of(edf::judge(table, answer))
 }
 
 // What `clinkerbell_start` returns: 0 ready, with the record before its first tick; 1 refused, with the witness, the demand there, the points
 // examined, and the blocked task and phase; 2 turned away, with the reason and the place.
 #[repr(C)]
-pub struct Started {
+pub struct StartOutcome {
     pub how: u32,
     pub reason: u32,
     pub place: u64,
@@ -55,10 +55,10 @@ pub struct Started {
 }
 
 // A start with no verdict's numbers.
-fn no_verdict(how: u32, reason: u32, place: u64, dispatcher: Dispatcher) -> Started
+fn no_verdict(how: u32, reason: u32, place: u64, dispatcher: Dispatcher) -> StartOutcome
     ensures { λ r. ⌜ r ≡ unrefused how reason place dispatcher ⌝ }
 {
-    Started {
+    StartOutcome {
         how,
         reason,
         place,
@@ -72,14 +72,14 @@ fn no_verdict(how: u32, reason: u32, place: u64, dispatcher: Dispatcher) -> Star
 }
 
 // The enum beside the record, as C has them.
-fn begun(started: start::Started) -> Started
-    ensures { λ r. ⌜ r ≡ begunOf (started .how) (started .dispatcher) ⌝ }
+fn start_outcome_of(started: start::Started) -> StartOutcome
+    ensures { λ r. ⌜ r ≡ startOutcomeOf (started .how) (started .dispatcher) ⌝ }
 {
     let how = started.how;
     let dispatcher = started.dispatcher;
     match how {
         start::How::Ready => no_verdict(0, 0, 0, dispatcher),
-        start::How::Refused(witness, demand, points, task, phase) => Started {
+        start::How::Refused(witness, demand, points, task, phase) => StartOutcome {
             how: 1,
             reason: 0,
             place: 0,
@@ -101,10 +101,10 @@ fn begun(started: start::Started) -> Started
 
 // Starts a dispatcher on a table in bytes.
 #[no_mangle]
-pub extern "C" fn clinkerbell_start(table: &[u8]) -> Started
-    ensures { λ r. ⌜ Starts (now (table .entry)) r ⌝ }
+pub extern "C" fn clinkerbell_start(table: &[u8]) -> StartOutcome
+    ensures { λ r. ⌜ StartsInC (now (table .entry)) r ⌝ }
 {
-    begun(start::start(table))
+    start_outcome_of(start::start(table))
 }
 
 // Moves the caller's own record forward by a tick.

@@ -15,8 +15,8 @@ abbrev pub inPlace : Bool → (least most number : ℕ) → Bool
 inPlace used least most number = cond used (within least most number) (eqb number 0)
 
 -- the number at place p of an array of 256, of which the first m i places of each task i are used
-abbrev pub numberAt : (phases : List ℕ) → (least : ℕ) → (most : ℕ → ℕ) → (numbers : List ℕ) → ℕ → Bool
-numberAt phases least most numbers p = inPlace (ltb (p % 8) (getD phases (p / 8) 0)) least (most p) (getD numbers p 0)
+abbrev pub inPlaceAt : (phases : List ℕ) → (least : ℕ) → (most : ℕ → ℕ) → (numbers : List ℕ) → ℕ → Bool
+inPlaceAt phases least most numbers p = inPlace (ltb (p % 8) (getD phases (p / 8) 0)) least (most p) (getD numbers p 0)
 
 -- the ticks since the last admitted release
 abbrev pub sinceAt : List ℕ → List ℕ → ℕ → Bool

@@ -16,7 +16,7 @@ ghost use Rattle.arrays.specs.Rules.{ticksOf};
 ghost use Rattle.finite.specs.Finite.{allTo};
 ghost use Rattle.model.specs.Arrays.{arraysAs, asTasks, phaseAt, tasksAlone};
 ghost use Rattle.model.specs.Ranges.{taskTest, workMost};
-ghost use Rattle.records.specs.Lent.{changingAll, inPlace, jobAt, numberAt, pieceAt, runIn, sinceAt};
+ghost use Rattle.records.specs.Lent.{changingAll, inPlace, jobAt, inPlaceAt, pieceAt, runIn, sinceAt};
 ghost use Rattle.records.specs.Ranges.{heldTest};
 ghost use Rattle.records.specs.Record.{fixedAs, heldOf};
 
@@ -59,7 +59,7 @@ fn tasks_in<'a>(
 }
 
 // A number of a phase from `least` to `most`; 0 at a place that is not used.
-fn number_in(used: bool, least: u32, most: u32, number: u32) -> bool
+fn in_place(used: bool, least: u32, most: u32, number: u32) -> bool
     ensures { λ r. ⌜ r ≡ inPlace used least most number ⌝ }
 {
     (either(used, least, 0) <= number) & (number <= either(used, most, 0))
@@ -74,7 +74,7 @@ fn counted_in(used: bool, work: u32, count: u32) -> bool
 }
 
 // The number at a place of an array of 256.
-fn number_at<'a>(
+fn in_place_at<'a>(
     phases: &'a [u32; 32],
     numbers: &'a [u32; 256],
     least: u32,
@@ -82,9 +82,9 @@ fn number_at<'a>(
     place: usize,
 ) -> bool
     requires { ⌜ place < 256 ⌝ }
-    ensures { λ r. ⌜ r ≡ numberAt (now (phases .entry)) least (λ p. most) (now (numbers .entry)) place ⌝ }
+    ensures { λ r. ⌜ r ≡ inPlaceAt (now (phases .entry)) least (λ p. most) (now (numbers .entry)) place ⌝ }
 {
-    number_in(
+    in_place(
         ((place % 8) as u32) < phases[place / 8],
         least,
         most,
@@ -100,7 +100,7 @@ fn counted_at<'a>(
     place: usize,
 ) -> bool
     requires { ⌜ place < 256 ⌝ }
-    ensures { λ r. ⌜ r ≡ (numberAt (now (phases .entry)) 1 (λ p. workMost) (now (work .entry)) place && numberAt (now (phases .entry)) 1 (λ p. getD (now (work .entry)) p 0) (now (counts .entry)) place) ⌝ }
+    ensures { λ r. ⌜ r ≡ (inPlaceAt (now (phases .entry)) 1 (λ p. workMost) (now (work .entry)) place && inPlaceAt (now (phases .entry)) 1 (λ p. getD (now (work .entry)) p 0) (now (counts .entry)) place) ⌝ }
 {
     counted_in(
         ((place % 8) as u32) < phases[place / 8],
@@ -126,7 +126,7 @@ pub fn held_in<'a>(
     for place in 0usize..256 {
         ok = ok
             & (counted_at(phases, work, counts, place)
-                & number_at(phases, cost, 0, Table::COST_MOST as u32, place));
+                & in_place_at(phases, cost, 0, Table::COST_MOST as u32, place));
     }
     (tasks <= Table::TASKS_MOST as u32) & each & ok
 }

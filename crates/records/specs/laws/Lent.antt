@@ -13,14 +13,14 @@ use Rattle.finite.specs.laws.Tests.{Decides, eqb-decides, leb-decides}
 use Rattle.model.specs.Arrays.{phaseAt}
 use Rattle.model.specs.Ranges.{allPhases, numberTest, workMost}
 use Rattle.model.specs.laws.Arrays.{phase-place}
-use Rattle.records.specs.Lent.{inPlace, numberAt}
+use Rattle.records.specs.Lent.{inPlace, inPlaceAt}
 
 -- ---- one place
 
 -- two tests make a number's range
-pub number-by : (used : Bool) (least most number : ℕ) → (leb (cond used least 0) number && leb number (cond used most 0)) ≡ inPlace used least most number
-number-by true least most number = refl
-number-by false least most number =
+pub in-place-by : (used : Bool) (least most number : ℕ) → (leb (cond used least 0) number && leb number (cond used most 0)) ≡ inPlace used least most number
+in-place-by true least most number = refl
+in-place-by false least most number =
     alike _ _
     (both (leb-decides 0 number) (leb-decides number 0))
     (restated (λ e. (omega arith, omega arith)) (λ h. omega (arith, h .1)) (eqb-decides number 0))
@@ -64,10 +64,10 @@ all-alike n p q e =
     (restated (λ t i l. e i l ∙ t i l) (λ t i l. sym (e i l) ∙ t i l) (every n q (λ i. q i ≡ true) (λ i. itself (q i))))
 
 -- one number of every phase, with a most of its own at each
-pub all-numbers : (phases : List ℕ) (least : ℕ) (most : ℕ → ℕ) (each : ℕ → ℕ → ℕ) (numbers : List ℕ) → ((p : ℕ) → most p ≡ each (p / 8) (p % 8))
-    → allTo 256 (numberAt phases least most numbers) ≡ allPhases (λ i j. numberTest (λ i. getD phases i 0) least (each i j) (phaseAt numbers) i j)
-all-numbers phases least most each numbers e =
-    all-alike 256 (numberAt phases least most numbers) (λ p. numberTest (λ i. getD phases i 0) least (each (p / 8) (p % 8)) (phaseAt numbers) (p / 8) (p % 8))
+pub all-in-place : (phases : List ℕ) (least : ℕ) (most : ℕ → ℕ) (each : ℕ → ℕ → ℕ) (numbers : List ℕ) → ((p : ℕ) → most p ≡ each (p / 8) (p % 8))
+    → allTo 256 (inPlaceAt phases least most numbers) ≡ allPhases (λ i j. numberTest (λ i. getD phases i 0) least (each i j) (phaseAt numbers) i j)
+all-in-place phases least most each numbers e =
+    all-alike 256 (inPlaceAt phases least most numbers) (λ p. numberTest (λ i. getD phases i 0) least (each (p / 8) (p % 8)) (phaseAt numbers) (p / 8) (p % 8))
     (λ p l. ap₂ (λ z v. inPlace (ltb (p % 8) (getD phases (p / 8) 0)) least z v) (e p) (sym (phase-place numbers p)))
 
 -- work and count are tested together, and the count comes last

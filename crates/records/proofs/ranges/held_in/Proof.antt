@@ -11,10 +11,10 @@ use Rattle.finite.specs.laws.Lists.{all-none, all-more}
 use Rattle.model.specs.Arrays.{arraysAs, asTasks, phaseAt, tasksAlone}
 use Rattle.model.specs.Ranges.{costMost, tableTest, taskTest, tasksMost, workMost}
 use Rattle.model.specs.laws.Arrays.{phase-place}
-use Rattle.records.specs.Lent.{numberAt}
+use Rattle.records.specs.Lent.{inPlaceAt}
 use Rattle.records.specs.Ranges.{heldTest}
 use Rattle.records.specs.Record.{fixedAs, heldOf}
-use Rattle.records.specs.laws.Lent.{all-both, all-numbers, count-last}
+use Rattle.records.specs.laws.Lent.{all-both, all-in-place, count-last}
 use borrow.Author.Needs.{needs}
 use denote.Ref.{now}
 use Rattle.records.proofs.ranges.held_in.Statement.{statement}
@@ -22,13 +22,13 @@ use Rattle.records.proofs.ranges.held_in.Tie as tie
 
 -- the numbers at a place: work, count, cost
 abbrev workAt : List ℕ → List ℕ → ℕ → Bool
-workAt phases work = numberAt phases 1 (λ p. workMost) work
+workAt phases work = inPlaceAt phases 1 (λ p. workMost) work
 
 abbrev countAt : List ℕ → List ℕ → List ℕ → ℕ → Bool
-countAt phases work counts = numberAt phases 1 (λ p. getD work p 0) counts
+countAt phases work counts = inPlaceAt phases 1 (λ p. getD work p 0) counts
 
 abbrev costAt : List ℕ → List ℕ → ℕ → Bool
-costAt phases cost = numberAt phases 0 (λ p. costMost) cost
+costAt phases cost = inPlaceAt phases 0 (λ p. costMost) cost
 
 abbrev placeAt : List ℕ → List ℕ → List ℕ → List ℕ → ℕ → Bool
 placeAt phases work cost counts p = (workAt phases work p && countAt phases work counts p) && costAt phases cost p
@@ -39,9 +39,9 @@ held-by : (tasks : ℕ) (spacing deadline phases work cost counts : List ℕ) (p
 unfolding heldTest tableTest
 held-by tasks spacing deadline phases work cost counts place each ok last e g =
     let A : Bool = leb tasks tasksMost && allTo 32 (taskTest (asTasks (tasksAlone tasks spacing deadline phases))) in
-    let W = all-numbers phases 1 (λ p. workMost) (λ i j. workMost) work (λ p. refl) in
-    let C = all-numbers phases 1 (λ p. getD work p 0) (phaseAt work) counts (λ p. sym (phase-place work p)) in
-    let Q = all-numbers phases 0 (λ p. costMost) (λ i j. costMost) cost (λ p. refl) in
+    let W = all-in-place phases 1 (λ p. workMost) (λ i j. workMost) work (λ p. refl) in
+    let C = all-in-place phases 1 (λ p. getD work p 0) (phaseAt work) counts (λ p. sym (phase-place work p)) in
+    let Q = all-in-place phases 0 (λ p. costMost) (λ i j. costMost) cost (λ p. refl) in
     ap₂ (λ a b. (leb tasks tasksMost && a) && b) e
     (g ∙ ap (λ (n : ℕ). allTo n (placeAt phases work cost counts)) last ∙ all-both 256 (λ p. workAt phases work p && countAt phases work counts p) (costAt phases cost) ∙
     ap (λ b. b && allTo 256 (costAt phases cost)) (all-both 256 (workAt phases work) (countAt phases work counts))) ∙
@@ -63,11 +63,11 @@ loop-holds c = (search needs, all-none _)
 counted-at-requires : tie.Need-counted-at-requires Inv-loop μ-loop
 counted-at-requires c κs = search needs
 
-cast-number-at : tie.Need-cast-number-at Inv-loop μ-loop
-cast-number-at c = search needs
+cast-in-place-at : tie.Need-cast-in-place-at Inv-loop μ-loop
+cast-in-place-at c = search needs
 
-number-at-requires : tie.Need-number-at-requires Inv-loop μ-loop
-number-at-requires c κs = search needs
+in-place-at-requires : tie.Need-in-place-at-requires Inv-loop μ-loop
+in-place-at-requires c κs = search needs
 
 add-place : tie.Need-add-place Inv-loop μ-loop
 add-place c = search needs
@@ -79,7 +79,7 @@ loop-again : tie.Need-loop-again Inv-loop μ-loop
 loop-again c =
     let count = c .before in
     let l = count .before .before .loop in
-    (search needs, all-more _ _ _ _ (l .inv .1) (rw (count .counted-at .ensures, c .number-at .ensures)))
+    (search needs, all-more _ _ _ _ (l .inv .1) (rw (count .counted-at .ensures, c .in-place-at .ensures)))
 
 cast-result : tie.Need-cast-result Inv-loop μ-loop
 cast-result c = search needs
@@ -94,4 +94,4 @@ returns c =
 pub held-in-spec : {M : Type 1} → statement M
 held-in-spec =
     tie.close
-    (tie.spec Inv-loop μ-loop tasks-in-requires loop-holds counted-at-requires cast-number-at number-at-requires add-place loop-less loop-again cast-result returns)
+    (tie.spec Inv-loop μ-loop tasks-in-requires loop-holds counted-at-requires cast-in-place-at in-place-at-requires add-place loop-less loop-again cast-result returns)
