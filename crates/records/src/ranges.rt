@@ -7,7 +7,6 @@ use arrays::numbers::either;
 use arrays::numbers::index;
 use arrays::rules::due_ticks;
 use table::Table;
-ghost use mathlib.Core.Bool.{_&&_};
 ghost use mathlib.Core.Path.{_≡_};
 ghost use Prim.Native.Nat.{_-_, _<_};
 ghost use lib.Dec.{eqb};
@@ -15,8 +14,8 @@ ghost use lib.ListN.{getD, length};
 ghost use Rattle.arrays.specs.Rules.{ticksOf};
 ghost use Rattle.finite.specs.Finite.{allTo};
 ghost use Rattle.model.specs.Arrays.{arraysAs, asTasks, phaseAt, tasksAlone};
-ghost use Rattle.model.specs.Ranges.{taskTest, workMost};
-ghost use Rattle.records.specs.Lent.{changingAll, inPlace, jobAt, inPlaceAt, pieceAt, runIn, sinceAt};
+ghost use Rattle.model.specs.Ranges.{taskTest};
+ghost use Rattle.records.specs.Lent.{changingAll, inPlace, inPlaceAt, jobAt, pieceAt, runIn, sinceAt};
 ghost use Rattle.records.specs.Ranges.{heldTest};
 ghost use Rattle.records.specs.Record.{fixedAs, heldOf};
 
@@ -65,12 +64,11 @@ fn in_place(used: bool, least: u32, most: u32, number: u32) -> bool
     (either(used, least, 0) <= number) & (number <= either(used, most, 0))
 }
 
-// The work and the count of a phase. (With a count from 1 to the work, the work is at least 1.)
-fn counted_in(used: bool, work: u32, count: u32) -> bool
-    ensures { λ r. ⌜ r ≡ (inPlace used 1 workMost work && inPlace used 1 work count) ⌝ }
+// The count of a phase, from 1 to its work.
+fn count_in(used: bool, work: u32, count: u32) -> bool
+    ensures { λ r. ⌜ r ≡ inPlace used 1 work count ⌝ }
 {
-    let work_most = either(used, Table::WORK_MOST as u32, 0);
-    choose(used, 1 <= count, count == 0) & (count <= work) & (work <= work_most)
+    choose(used, 1 <= count, count == 0) & (count <= work)
 }
 
 // The number at a place of an array of 256.
@@ -92,24 +90,25 @@ fn in_place_at<'a>(
     )
 }
 
-// The work and the count at a place.
-fn counted_at<'a>(
+// The count at a place.
+fn count_at<'a>(
     phases: &'a [u32; 32],
     work: &'a [u32; 256],
     counts: &'a [u32; 256],
     place: usize,
 ) -> bool
     requires { ⌜ place < 256 ⌝ }
-    ensures { λ r. ⌜ r ≡ (inPlaceAt (now (phases .entry)) 1 (λ p. workMost) (now (work .entry)) place && inPlaceAt (now (phases .entry)) 1 (λ p. getD (now (work .entry)) p 0) (now (counts .entry)) place) ⌝ }
+    ensures { λ r. ⌜ r ≡ inPlaceAt (now (phases .entry)) 1 (λ p. getD (now (work .entry)) p 0) (now (counts .entry)) place ⌝ }
 {
-    counted_in(
+    count_in(
         ((place % 8) as u32) < phases[place / 8],
         work[place],
         counts[place],
     )
 }
 
-// The table and the counts. One loop over all places of the phases, whatever numbers a phase has: to find out which are used costs most of it.
+// The table and the counts. One loop tests every number of a phase: to find out which places are used costs most of it. A work is at least 1 where its
+// count is in its range, and is not tested for that.
 pub fn held_in<'a>(
     tasks: u32,
     spacing: &'a [u32; 32],
@@ -122,13 +121,14 @@ pub fn held_in<'a>(
     ensures { λ r. ⌜ r ≡ heldTest (heldOf (fixedAs (arraysAs tasks (now (spacing .entry)) (now (deadline .entry)) (now (phases .entry)) (now (work .entry)) (now (cost .entry))) (now (counts .entry)))) ⌝ }
 {
     let each = tasks_in(tasks, spacing, deadline, phases);
-    let mut ok = true;
+    let mut ok = (tasks <= Table::TASKS_MOST as u32) & each;
     for place in 0usize..256 {
         ok = ok
-            & (counted_at(phases, work, counts, place)
-                & in_place_at(phases, cost, 0, Table::COST_MOST as u32, place));
+            & (in_place_at(phases, work, 0, Table::WORK_MOST as u32, place)
+                & in_place_at(phases, cost, 0, Table::COST_MOST as u32, place)
+                & count_at(phases, work, counts, place));
     }
-    (tasks <= Table::TASKS_MOST as u32) & each & ok
+    ok
 }
 
 // ---- what a tick changes

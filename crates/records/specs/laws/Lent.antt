@@ -3,15 +3,16 @@
 use mathlib.Core.Path.{_≡_, refl, sym, ap, ap₂, _∙_}
 use mathlib.Core.Bool.{Bool, true, false, cond, _&&_}
 use mathlib.Core.List.{List}
-use Prim.Native.Nat.{ℕ, _/_, _%_, _<_}
+use Prim.Native.Nat.{ℕ, _+_, _/_, _%_, _<_}
+use native.Mathlib.Numerals.{add-one}
 use native.Mathlib.Omega.{arith}
 use lib.Dec.{leb, ltb, eqb}
 use lib.ListN.{getD}
-use Rattle.finite.specs.Finite.{allTo}
+use Rattle.finite.specs.Finite.{Below, allTo}
 use Rattle.finite.specs.laws.Decided.{alike, both, every, restated, within-decides}
 use Rattle.finite.specs.laws.Tests.{Decides, eqb-decides, leb-decides}
 use Rattle.model.specs.Arrays.{phaseAt}
-use Rattle.model.specs.Ranges.{allPhases, numberTest, workMost}
+use Rattle.model.specs.Ranges.{allPhases, numberTest}
 use Rattle.model.specs.laws.Arrays.{phase-place}
 use Rattle.records.specs.Lent.{inPlace, inPlaceAt}
 
@@ -25,23 +26,22 @@ in-place-by false least most number =
     (both (leb-decides 0 number) (leb-decides number 0))
     (restated (λ e. (omega arith, omega arith)) (λ h. omega (arith, h .1)) (eqb-decides number 0))
 
--- three make the work and the count
-pub counted-by : (used : Bool) (work count : ℕ)
-    → ((cond used (leb 1 count) (eqb count 0) && leb count work) && leb work (cond used workMost 0)) ≡ (inPlace used 1 workMost work && inPlace used 1 work count)
-counted-by true work count =
+-- and two a count's, whatever the work at a place that is not used
+pub count-by : (used : Bool) (work count : ℕ) → (cond used (leb 1 count) (eqb count 0) && leb count work) ≡ inPlace used 1 work count
+count-by true work count = refl
+count-by false work count =
     alike _ _
-    (both (both (leb-decides 1 count) (leb-decides count work)) (leb-decides work workMost))
-    (restated
-    (λ t. ((t .1 .0, t .1 .1), t .0 .1))
-    (λ t. ((omega (arith, t .0 .0, t .0 .1), t .1), (t .0 .0, t .0 .1)))
-    (both (within-decides 1 workMost work) (within-decides 1 work count)))
-counted-by false work count =
+    (both (eqb-decides count 0) (leb-decides count work))
+    (restated (λ e. (e, omega (arith, e))) (λ h. h .0) (eqb-decides count 0))
+
+-- where a count is in its range, the work is at least 1
+work-some : (used : Bool) (most work count : ℕ) → inPlace used 1 work count ≡ true → inPlace used 0 most work ≡ inPlace used 1 most work
+work-some true most work count h =
+    let c = within-decides 1 work count .0 h in
     alike _ _
-    (both (both (eqb-decides count 0) (leb-decides count work)) (leb-decides work 0))
-    (restated
-    (λ t. ((t .1, omega (arith, t .1)), omega (arith, t .0)))
-    (λ t. (omega (arith, t .1), t .0 .0))
-    (both (eqb-decides work 0) (eqb-decides count 0)))
+    (both (leb-decides 0 work) (leb-decides work most))
+    (restated (λ t. (omega arith, t .1)) (λ t. (omega (arith, c .0, c .1), t .1)) (both (leb-decides 1 work) (leb-decides work most)))
+work-some false most work count h = refl
 
 -- ---- every place
 
@@ -70,17 +70,48 @@ all-in-place phases least most each numbers e =
     all-alike 256 (inPlaceAt phases least most numbers) (λ p. numberTest (λ i. getD phases i 0) least (each (p / 8) (p % 8)) (phaseAt numbers) (p / 8) (p % 8))
     (λ p l. ap₂ (λ z v. inPlace (ltb (p % 8) (getD phases (p / 8) 0)) least z v) (e p) (sym (phase-place numbers p)))
 
--- work and count are tested together, and the count comes last
-pub count-last : (a w c q : Bool) → (a && ((w && c) && q)) ≡ (((a && w) && q) && c)
-count-last true true true q = and-true q
+-- where all counts are, all works are
+pub works-some : (phases : List ℕ) (most : ℕ) (work counts : List ℕ) → allTo 256 (inPlaceAt phases 1 (λ p. getD work p 0) counts) ≡ true
+    → allTo 256 (inPlaceAt phases 0 (λ p. most) work) ≡ allTo 256 (inPlaceAt phases 1 (λ p. most) work)
+works-some phases most work counts h =
+    all-alike 256 (inPlaceAt phases 0 (λ p. most) work) (inPlaceAt phases 1 (λ p. most) work)
+    (λ p l. work-some (ltb (p % 8) (getD phases (p / 8) 0)) most (getD work p 0) (getD counts p 0) (each p l))
   where
-    and-true : (q : Bool) → q ≡ (q && true)
-    and-true true = refl
-    and-true false = refl
-count-last true true false q = and-false q
+    each : Below 256 (λ p. inPlaceAt phases 1 (λ p. getD work p 0) counts p ≡ true)
+    each =
+        every 256 (inPlaceAt phases 1 (λ p. getD work p 0) counts) (λ p. inPlaceAt phases 1 (λ p. getD work p 0) counts p ≡ true)
+        (λ p. itself (inPlaceAt phases 1 (λ p. getD work p 0) counts p)) .0 h
+
+-- ---- a loop that tests every place after a first test
+
+unfoldable pub allAfter : Bool → ℕ → (ℕ → Bool) → Bool
+allAfter a n p = a && allTo n p
+
+pub after-none : (a : Bool) (p : ℕ → Bool) → a ≡ allAfter a 0 p
+unfolding allAfter allTo
+after-none true p = refl
+after-none false p = refl
+
+pub after-more : (a : Bool) (i : ℕ) (p : ℕ → Bool) (b v : Bool) → b ≡ allAfter a i p → v ≡ (b && p i) → v ≡ allAfter a (i + 1) p
+unfolding allAfter allTo
+after-more true i p b v e f = f ∙ rw (add-one, e)
+after-more false i p b v e f = f ∙ rw e
+
+-- one test at every place, and one more
+pub after-one : (n : ℕ) (a : Bool) (p : ℕ → Bool) → allAfter a n p ≡ (a && allTo n p)
+unfolding allAfter
+after-one n a p = refl
+
+pub after-all : (n : ℕ) (a : Bool) (p q : ℕ → Bool) {x : Bool} → allAfter a n p ≡ x → allAfter a n (λ i. p i && q i) ≡ (x && allTo n q)
+unfolding allAfter
+after-all n true p q e = all-both n p q ∙ ap (λ b. b && allTo n q) e
+after-all n false p q e = ap (λ b. b && allTo n q) e
+
+-- what matters only where the last test passes
+pub under-last : (b : Bool) {x y : Bool} → (b ≡ true → x ≡ y) → (x && b) ≡ (y && b)
+under-last true e = ap (λ z. z && true) (e refl)
+under-last false {x} {y} e = none x ∙ sym (none y)
   where
-    and-false : (q : Bool) → false ≡ (q && false)
-    and-false true = refl
-    and-false false = refl
-count-last true false c q = refl
-count-last false w c q = refl
+    none : (z : Bool) → (z && false) ≡ false
+    none true = refl
+    none false = refl
