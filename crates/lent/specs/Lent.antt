@@ -5,7 +5,7 @@ use mathlib.Core.Bool.{true, false}
 use mathlib.Core.List.{List}
 use Prim.Native.Nat.{ℕ, _≤_, _<_, _^_}
 use lib.ListN.{length, getD}
-use Rattle.model.specs.Tasks.{Tasks}
+use Rattle.model.specs.Tasks.{Tasks, withoutPhases}
 use Rattle.model.specs.Demand.{demand}
 use Rattle.lent.specs.declared.TaskLoad.{TaskLoad}
 use Rattle.lent.specs.declared.Demand.{Demand}
@@ -16,14 +16,7 @@ taskAt tasks i = getD tasks i (record { spacing = 0; deadline = 0; budget = 0 })
 
 -- The tasks of a slice: as many as it is long, T and D as its structs say. Demand asks for no phases, so they have none.
 abbrev pub tasksLent : List TaskLoad → Tasks
-tasksLent tasks = record {
-  n = length tasks;
-  T = λ i. taskAt tasks i .spacing;
-  D = λ i. taskAt tasks i .deadline;
-  m = λ i. 0;
-  c = λ i j. 0;
-  q = λ i j. 0;
-}
+tasksLent tasks = withoutPhases (length tasks) (λ i. taskAt tasks i .spacing) (λ i. taskAt tasks i .deadline)
 
 -- The demand at t of a slice, under its budgets. Division by 0 gives 0: a task with spacing 0 and D at most t has one job.
 abbrev pub demandLent : List TaskLoad → ℕ → ℕ
