@@ -12,9 +12,8 @@ use Rattle.records.specs.Ranges.{heldTest, inRange}
 use Rattle.records.specs.Record.{emptyRecord, heldIn, recordOf, stateIn, tasksIn}
 use Rattle.records.specs.declared.Dispatcher.{Dispatcher}
 use Rattle.records.specs.laws.Fields.{Fields, Long}
-use Rattle.records.specs.laws.Held.{none-held}
+use Rattle.records.specs.laws.Held.{none-held, record-long}
 use Rattle.records.specs.laws.InRange.{range-fields}
-use Rattle.records.specs.laws.Recorded.{record-long}
 use Rattle.records.specs.laws.Views.{record-of-views}
 
 -- it is read as it was written, so its arrays have their lengths

@@ -4,18 +4,19 @@
 use mathlib.Core.Path.{_≡_, sym, _∙_}
 use Prim.Native.Nat.{ℕ, _/_, _%_, _≤_}
 use native.Mathlib.Omega.{arith}
-use Rattle.finite.specs.laws.Decided.{restated, by-test, under, within-decides}
+use Rattle.arrays.specs.Masks.{digit}
+use Rattle.finite.specs.laws.Decided.{by-test, restated, under, within-decides}
 use Rattle.finite.specs.laws.Lists.{length-list}
 use Rattle.finite.specs.laws.Tests.{Decides, eqb-decides, ltb-decides}
-use Rattle.model.specs.Arrays.{Sized}
 use Rattle.model.specs.Phase.{Choice, phasesOf}
 use Rattle.model.specs.Ranges.{InTable, allPhases}
 use Rattle.model.specs.Tasks.{Tasks}
 use Rattle.model.specs.laws.Arrays.{phase-none, phase-past, phases-of}
 use Rattle.model.specs.laws.Places.{at-used, places-decide}
 use Rattle.model.specs.laws.Ranges.{as-from, few-of, from-arrays, none-alike, sized-from, table-decides}
+use Rattle.promise.specs.Rules.{State}
 use Rattle.records.specs.Ranges.{CountsIn, HeldIn, countTest, heldTest}
-use Rattle.records.specs.Record.{Held, Long, arraysIn, countsIn, fixedIn, fixedOf, heldFor, heldIn, heldOf, tasksIn}
+use Rattle.records.specs.Record.{Held, Long, arraysIn, countsIn, fixedIn, fixedOf, heldFor, heldIn, heldOf, recordOf, tasksIn}
 use Rattle.records.specs.declared.Dispatcher.{Dispatcher}
 
 -- ---- from the arrays to the model and back
@@ -33,6 +34,18 @@ held-of-fixed h range = λ k.
       table = as-from (h .table) (range .table) k;
       counts = λ i j. at-used (h .table) (few-of (h .table) (range .table)) (h .counts) (range .counts .no-count) i j k;
     }
+
+-- the arrays of a record that is written have their lengths
+pub record-long : (h : Held) (s : State) → Long (recordOf h s)
+record-long h s = record {
+  table = sized-from (h .table);
+  counts = length-list 256 (λ p. h .counts (p / 8) (p % 8));
+  since = length-list 32 (s .since);
+  unfinished = length-list 32 (λ i. digit (s .busy i));
+  left = length-list 32 (s .left);
+  phase = length-list 32 (s .phase);
+  piece = length-list 32 (s .piece);
+}
 
 -- ---- the test decides the range
 

@@ -7,7 +7,7 @@ use native.Mathlib.Decide.{decLt}
 use native.Mathlib.Omega.{arith}
 use lib.Dec.{leb, eqb}
 use lib.ListN.{getD}
-use Rattle.finite.specs.Finite.{Below, allTo}
+use Rattle.finite.specs.Finite.{Below}
 use Rattle.finite.specs.laws.Decided.{both, by-test, every, restated, three, within-decides}
 use Rattle.finite.specs.laws.Tests.{Decides, by-cases, eqb-decides, leb-decides, ltb-decides}
 use Rattle.model.specs.Phase.{Choice}

@@ -2,32 +2,16 @@
 -- Assumes nothing.
 use mathlib.Core.Path.{_≡_, sym, ap, _∙_, subst}
 use mathlib.Core.Bool.{true}
-use Prim.Native.Nat.{_/_, _%_}
-use Rattle.arrays.specs.Masks.{digit}
-use Rattle.finite.specs.laws.Lists.{length-list}
 use Rattle.finite.specs.laws.Tests.{cond-true}
-use Rattle.model.specs.laws.Ranges.{sized-from}
 use Rattle.promise.specs.Rules.{State}
 use Rattle.promise.specs.laws.Range.{Range}
 use Rattle.promise.specs.laws.Remaining.{Proper}
 use Rattle.records.specs.Ranges.{HeldIn, inRange, usable}
 use Rattle.records.specs.Record.{Held, emptyRecord, heldIn, recordOf, stateIn}
 use Rattle.records.specs.declared.Dispatcher.{Dispatcher}
-use Rattle.records.specs.laws.Fields.{Long}
+use Rattle.records.specs.laws.Held.{record-long}
 use Rattle.records.specs.laws.InRange.{fields-range}
 use Rattle.records.specs.laws.Views.{flags-binary, held-of-record, state-of-record}
-
--- its arrays have their lengths
-pub record-long : (h : Held) (s : State) → Long (recordOf h s)
-record-long h s = record {
-  table = sized-from (h .table);
-  counts = length-list 256 (λ p. h .counts (p / 8) (p % 8));
-  since = length-list 32 (s .since);
-  unfinished = length-list 32 (λ i. digit (s .busy i));
-  left = length-list 32 (s .left);
-  phase = length-list 32 (s .phase);
-  piece = length-list 32 (s .piece);
-}
 
 module _ (h : Held) (held : HeldIn h) (s : State) (range : Range (h .table) s) where
   abbrev d : Dispatcher
