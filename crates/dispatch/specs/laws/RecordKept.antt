@@ -8,8 +8,8 @@ use native.Mathlib.Nat.{div-eq-of-lt, pow-le-pow-right}
 use native.Mathlib.Omega.{arith}
 use lib.Dec.{eqb}
 use borrow.Author.Tests.{le-ltb}
-use Rattle.arrays.specs.Masks.{bit, maskOf}
-use Rattle.arrays.specs.laws.Masks.{bit-maskOf, maskOf-lt}
+use Rattle.finite.specs.Masks.{bit, maskOf}
+use Rattle.finite.specs.laws.Masks.{bit-maskOf, maskOf-lt}
 use Rattle.records.specs.Ranges.{HeldIn, usable}
 use Rattle.records.specs.Record.{Held, heldFor, recordOf, requestOf}
 use Rattle.records.specs.Start.{Startable, readyRecord}

@@ -4,7 +4,7 @@
 use mathlib.Core.Path.{_≡_, sym, _∙_}
 use Prim.Native.Nat.{ℕ, _/_, _%_, _≤_}
 use native.Mathlib.Omega.{arith}
-use Rattle.arrays.specs.Masks.{digit}
+use Rattle.finite.specs.Masks.{digit}
 use Rattle.finite.specs.laws.Decided.{by-test, restated, under, within-decides}
 use Rattle.finite.specs.laws.Lists.{length-list}
 use Rattle.finite.specs.laws.Tests.{Decides, eqb-decides, ltb-decides}

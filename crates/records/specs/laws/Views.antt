@@ -8,7 +8,7 @@ use native.Mathlib.Decide.{decLt}
 use native.Mathlib.Omega.{arith}
 use lib.Dec.{eqb}
 use lib.ListN.{length, getD, List·getD-eq-default}
-use Rattle.arrays.specs.Masks.{digit}
+use Rattle.finite.specs.Masks.{digit}
 use Rattle.arrays.specs.Rules.{ticksOf}
 use Rattle.finite.specs.Finite.{listTo}
 use Rattle.finite.specs.laws.Lists.{getD-list, length-list, list-alike, list-of}
