@@ -9,7 +9,7 @@ use lib.Dec.{leb, eqb}
 use lib.ListN.{getD}
 use Rattle.finite.specs.Finite.{Below}
 use Rattle.finite.specs.laws.Decided.{both, by-test, every, restated, three, within-decides}
-use Rattle.finite.specs.laws.Tests.{Decides, by-cases, eqb-decides, leb-decides, ltb-decides}
+use Rattle.finite.specs.laws.Tests.{Decides, by-cases, eqb-decides, failed, leb-decides, ltb-decides}
 use Rattle.model.specs.Phase.{Choice}
 use Rattle.model.specs.Ranges.{within}
 use Rattle.model.specs.Tasks.{Tasks}
@@ -51,9 +51,6 @@ pub run-decides : (run n : ℕ) (u : Bool) (ticks most : ℕ) → Decides (cond 
 run-decides run n u ticks most =
     by-test (eqb-decides run 0) (eqb-decides ticks 0)
     (three (leb-decides run n) (itself u) (within-decides 1 most ticks))
-
-pub untrue : (b : Bool) → b ≡ false → ¬ (b ≡ true)
-untrue b e f = true≢false (sym f ∙ e)
 
 module _ (d : Dispatcher) where
   abbrev S : Tasks
@@ -109,13 +106,13 @@ module _ (d : Dispatcher) where
         go (yes l) = now i (omega (arith, held .table .tasks)) .0 l
         go (no l) =
             let z = absent i (omega arith) in
-            (omega (arith, z .0 .0 .0 .0), omega (arith, z .0 .0 .0 .1), (λ b. absurd (untrue (s .busy i) (not-busy i (z .0 .0 .0 .1)) b), λ b. (z .0 .0 .1, z .0 .1, z .1)))
+            (omega (arith, z .0 .0 .0 .0), omega (arith, z .0 .0 .0 .1), (λ b. absurd (failed (itself (s .busy i)) (not-busy i (z .0 .0 .0 .1)) b), λ b. (z .0 .0 .1, z .0 .1, z .1)))
 
     state : Range S s
     state = record {
       since = λ i. any i .0;
       left = λ i b. any i .2 .0 b .0;
-      idle = λ i b. let z = any i .2 .1 (untrue (s .busy i) b) in record { left = z .0; phase = z .1; piece = z .2 };
+      idle = λ i b. let z = any i .2 .1 (failed (itself (s .busy i)) b) in record { left = z .0; phase = z .1; piece = z .2 };
       none = λ i h. not-busy i (absent i h .0 .0 .0 .1);
       rest = run .0;
     }

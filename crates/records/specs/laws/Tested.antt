@@ -10,7 +10,7 @@ use lib.ListN.{getD}
 use Rattle.arrays.specs.Rules.{ticksOf}
 use Rattle.finite.specs.Finite.{Below, allTo}
 use Rattle.finite.specs.laws.Decided.{alike, both, by-test, every, restated, three, within-decides}
-use Rattle.finite.specs.laws.Tests.{Decides, and-both, by-cases, eqb-decides, leb-decides}
+use Rattle.finite.specs.laws.Tests.{Decides, and-both, by-cases, eqb-decides, failed, leb-decides}
 use Rattle.model.specs.Phase.{Choice}
 use Rattle.model.specs.Ranges.{InTable}
 use Rattle.model.specs.Tasks.{Tasks}
@@ -23,7 +23,7 @@ use Rattle.records.specs.declared.Dispatcher.{Dispatcher}
 use Rattle.records.specs.laws.Fields.{Long}
 use Rattle.records.specs.laws.Held.{held-decides}
 use Rattle.records.specs.laws.Lent.{all-alike, all-both, itself}
-use Rattle.records.specs.laws.InRange.{ChangingP, NowP, RunP, Within, changing-decides, run-decides, untrue}
+use Rattle.records.specs.laws.InRange.{ChangingP, NowP, RunP, Within, changing-decides, run-decides}
 use Rattle.records.specs.laws.Views.{due-of-views, dueTicks}
 
 -- a second test matters only where the first passes
@@ -102,7 +102,7 @@ module _ (d : Dispatcher) (long : Long d) where
       λ l.
           let z = t .no-task i (omega arith) in
           let b : s .busy i ≡ false = by-cases (s .busy i) (λ b. let j = near .0 b in absurd (omega (arith, j .1 .0, j .1 .1, z .no-phases))) (λ b. b) in
-          let j = near .1 (untrue (s .busy i) b) in
+          let j = near .1 (failed (itself (s .busy i)) b) in
           ((((omega (arith, h .0 .0, z .no-spacing), idle-flag i (h .0 .1 .0) b), j .0), j .1), j .2),
     )
       where
@@ -116,7 +116,7 @@ module _ (d : Dispatcher) (long : Long d) where
         known n =
             let j = n .2 in (
               (n .0, (n .1, (λ b. let a = j .0 b in (a .0, a .1, a .2 .0), j .1))),
-              by-cases (s .busy i) (λ b. j .0 b .2 .1) (λ b. let z = j .1 (untrue (s .busy i) b) in omega (arith, z .2)),
+              by-cases (s .busy i) (λ b. j .0 b .2 .1) (λ b. let z = j .1 (failed (itself (s .busy i)) b) in omega (arith, z .2)),
             )
 
         go : Dec (i < S .n) → LentP i
@@ -126,7 +126,7 @@ module _ (d : Dispatcher) (long : Long d) where
             known (
               omega (arith, z .0 .0 .0 .0),
               omega (arith, z .0 .0 .0 .1),
-              (λ b. absurd (untrue (s .busy i) (ap (λ v. eqb v 1) (z .0 .0 .0 .1)) b), λ b. (z .0 .0 .1, z .0 .1, z .1)),
+              (λ b. absurd (failed (itself (s .busy i)) (ap (λ v. eqb v 1) (z .0 .0 .0 .1)) b), λ b. (z .0 .0 .1, z .0 .1, z .1)),
             )
 
     changing-are : ((allTo 32 sinceOk && allTo 32 jobOk) && allTo 32 pieceOk) ≡ allTo 32 (changingTest d)
