@@ -82,7 +82,7 @@ withPhases work cost a = arraysAs (a .tasks) (a .spacing) (a .deadline) (a .phas
 abbrev pub withPhase : (place : ℕ) → List ℕ → Arrays → Arrays
 withPhase place numbers a = withPhases (set (a .work) place (getD numbers 0 0)) (set (a .cost) place (getD numbers 1 0)) a
 
--- ---- a part of a table
+-- ---- a part of a table, for functions that are lent no more
 
 -- the arrays of its tasks alone
 abbrev pub tasksAlone : ℕ → (spacing deadline phases : List ℕ) → Arrays
