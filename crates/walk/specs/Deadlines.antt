@@ -4,12 +4,13 @@
 use mathlib.Core.Path.{_≡_}
 use mathlib.Core.Bool.{false}
 use mathlib.Core.List.{List}
-use Prim.Native.Nat.{ℕ, _+_, _*_, _≤_, _<_}
-use lib.ListN.{length, getD}
+use Prim.Native.Nat.{ℕ, _+_, _*_, _^_, _≤_, _<_, min}
+use lib.ListN.{length, getD, set}
 use lib.Dec.{eqb}
 use Rattle.finite.specs.Finite.{Below}
 use Rattle.finite.specs.If.{if_then_else_}
 use Rattle.model.specs.Ranges.{horizonMost, spacingMost, tasksMost}
+use Rattle.walk.specs.Masks.{BitPut}
 use Rattle.finite.specs.Masks.{bit}
 
 -- what a next deadline may be while points up to the horizon are taken
@@ -26,9 +27,13 @@ pub record Mapped (n : ℕ) (f : ℕ → ℕ → ℕ) (before after : List ℕ) 
   pub below : (i : ℕ) → i < n → getD after i 0 ≡ f i (getD before i 0)
   pub beyond : (i : ℕ) → n ≤ i → getD after i 0 ≡ getD before i 0
 
--- the next deadline of task i after the point t: moved on by its spacing where it was t
+-- the next deadline v of a task after the point t: moved on by its spacing where it was t
+abbrev pub nextOf : ℕ → ℕ → ℕ → ℕ
+nextOf spacing t v = if eqb v t then t + spacing else v
+
+-- of task i, by the array of the spacings
 abbrev pub nextAt : List ℕ → ℕ → ℕ → ℕ → ℕ
-nextAt spacing t i v = if eqb v t then t + getD spacing i 0 else v
+nextAt spacing t i v = nextOf (getD spacing i 0) t v
 
 -- t is the least of the first n numbers of xs
 pub record Earliest (n : ℕ) (xs : List ℕ) (t : ℕ) : Type 0 where
@@ -44,6 +49,13 @@ pub record DeadlinesMoved (n t : ℕ) (spacing next next′ : List ℕ) (soonest
 pub record DueAt (n t : ℕ) (next : List ℕ) (mask : ℕ) : Type 0 where
   pub each : Below n (λ i. bit mask i ≡ eqb (getD next i 0) t)
   pub beyond : (i : ℕ) → n ≤ i → bit mask i ≡ false
+
+-- task i is passed: its next deadline after t, and with it the tasks that were due and the soonest deadline of those passed
+pub record MovesOn (i t spacing : ℕ) (next next′ : List ℕ) (due due′ soonest soonest′ : ℕ) : Type 0 where
+  pub moved : next′ ≡ set next i (nextOf spacing t (getD next i 0))
+  pub marked : BitPut i (eqb (getD next i 0) t) due due′
+  pub small : due′ < 2 ^ (i + 1)
+  pub least : soonest′ ≡ min soonest (nextOf spacing t (getD next i 0))
 
 -- what is asked before the point t is passed
 pub record BeforePass (n t : ℕ) (spacing next : List ℕ) : Type 0 where

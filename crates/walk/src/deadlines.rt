@@ -4,10 +4,10 @@ use crate::masks::mark;
 use pieces::numbers::wide;
 use table::Table;
 ghost use mathlib.Core.Path.{_≡_};
-ghost use Prim.Native.Nat.{_+_, _≤_, _<_, min};
-ghost use lib.ListN.{length, set};
-ghost use Rattle.model.specs.Ranges.{horizonMost};
-ghost use Rattle.walk.specs.Deadlines.{BeforePass, Earliest, PointPassed};
+ghost use Prim.Native.Nat.{_^_, _≤_, _<_, min};
+ghost use lib.ListN.{length};
+ghost use Rattle.model.specs.Ranges.{horizonMost, tasksMost};
+ghost use Rattle.walk.specs.Deadlines.{BeforePass, Earliest, MovesOn, PointPassed};
 
 // The lesser of two.
 pub fn lesser(a: u64, b: u64) -> u64
@@ -44,20 +44,30 @@ pub fn front(n: usize, next: &[u64; 32]) -> u64
     t
 }
 
-// Task i, which is due at t, moves on by its spacing; the answer is the lesser of the soonest deadline so far and its new one.
-fn move_on(i: usize, t: u64, spacing: u32, soonest: u64, next: &mut [u64; 32]) -> u64
-    requires { ⌜ (i < 32) × (t ≤ horizonMost) ⌝ }
-    ensures { λ r. ⌜ (now (next .exit) ≡ set (now (next .entry)) i (t + spacing)) × (r ≡ min soonest (t + spacing)) ⌝ }
-{
-    let later = t + wide(spacing);
-    next[i] = later;
-    lesser(soonest, later)
-}
-
 // Who was due at a test point, and the next test point: the least of the next deadlines after it.
 pub struct Moved {
     pub due: u32,
     pub soonest: u64,
+}
+
+// Task i moves on by its spacing where it is due at t, and is counted in with the tasks before it.
+fn move_on(i: usize, t: u64, spacing: u32, moved: Moved, next: &mut [u64; 32]) -> Moved
+    requires { ⌜ (i < tasksMost) × (t ≤ horizonMost) × (moved .due < 2 ^ i) ⌝ }
+    ensures { λ r. ⌜ MovesOn i t spacing (now (next .entry)) (now (next .exit)) (moved .due) (r .due) (moved .soonest) (r .soonest) ⌝ }
+{
+    let v = next[i];
+    if v == t {
+        let later = t + wide(spacing);
+        next[i] = later;
+        return Moved {
+            due: mark(moved.due, i),
+            soonest: lesser(moved.soonest, later),
+        };
+    }
+    Moved {
+        due: moved.due,
+        soonest: lesser(moved.soonest, v),
+    }
 }
 
 // The test point t is passed: every task whose next deadline it is moves on. The least starts from a number above every next deadline.
@@ -65,19 +75,16 @@ pub fn pass(n: usize, t: u64, spacing: &[u32; 32], next: &mut [u64; 32]) -> Move
     requires { ⌜ BeforePass n t (now spacing) (now next) ⌝ }
     ensures { λ r. ⌜ PointPassed n t (now (spacing .entry)) (now (next .entry)) (now (next .exit)) (r .due) (r .soonest) ⌝ }
 {
-    let mut due: u32 = 0;
-    let mut soonest: u64 = 2 * Table::HORIZON_MOST;
+    let mut moved = Moved {
+        due: 0,
+        soonest: 2 * Table::HORIZON_MOST,
+    };
     let mut i: usize = 0;
-    while i < n {
-        let v = next[i];
-        if v == t {
-            soonest = move_on(i, t, spacing[i], soonest, next);
-            due = mark(due, i);
-            i += 1;
-        } else {
-            soonest = lesser(soonest, v);
-            i += 1;
+    loop {
+        moved = move_on(i, t, spacing[i], moved, next);
+        i += 1;
+        if n <= i {
+            return moved;
         }
     }
-    Moved { due, soonest }
 }

@@ -10,13 +10,13 @@ use native.Mathlib.Omega.{arith}
 use lib.Dec.{eqb, lit<}
 use lib.ListN.{length, getD, set, length-set}
 use lib.Pow.{pow-mono}
-use lib.Seq.{getD-set-same, getD-set-other}
+use lib.Seq.{getD-set-same, getD-set-other, set-getD}
 use borrow.Author.Count.{below-more}
 use borrow.Author.Tests.{eqb-true, eqb-false, eq-eqb, ne-eqb}
 use Rattle.finite.specs.laws.Tests.{le-or-lt}
 use Rattle.finite.specs.Finite.{Below}
 use Rattle.model.specs.Ranges.{horizonMost, tasksMost}
-use Rattle.walk.specs.Deadlines.{BeforePass, Earliest, Mapped, PointPassed, beyondAll, nextAt}
+use Rattle.walk.specs.Deadlines.{BeforePass, Earliest, Mapped, MovesOn, PointPassed, beyondAll, nextAt}
 use Rattle.walk.specs.Masks.{BitPut}
 use Rattle.finite.specs.Masks.{bit}
 use Rattle.walk.specs.laws.Masks.{bit-beyond}
@@ -41,16 +41,6 @@ mapped-more i v f xs ys l m e =
       same = length-set ys i v ∙ m .same;
       below = below-more (λ k. getD (set ys i v) k 0 ≡ f k (getD xs k 0)) i (λ k lt. getD-set-other ys i k v 0 (omega arith) ∙ m .below k lt) (rw (getD-set-same ys i v 0 l, e, m .beyond i (omega arith)));
       beyond = λ k le. getD-set-other ys i k v 0 (omega arith) ∙ m .beyond k (omega arith);
-    }
-
--- one more place is left as it is, where f leaves it
-pub mapped-skip : (i : ℕ) (f : ℕ → ℕ → ℕ) (xs ys : List ℕ) → Mapped i f xs ys → f i (getD ys i 0) ≡ getD ys i 0 → Mapped (i + 1) f xs ys
-mapped-skip i f xs ys m e =
-    let old : getD ys i 0 ≡ getD xs i 0 = m .beyond i (omega arith) in
-    record {
-      same = m .same;
-      below = below-more (λ k. getD ys k 0 ≡ f k (getD xs k 0)) i (m .below) (sym e ∙ ap (f i) old);
-      beyond = λ k le. m .beyond k (omega arith);
     }
 
 -- ---- the least
@@ -97,9 +87,30 @@ under-more bound i s v xs ys m old e =
 under-all : (bound n s : ℕ) (xs : List ℕ) → 0 < n → getD xs 0 0 < bound → EarliestUnder bound n xs s → Earliest n xs s
 under-all bound n s xs some near m = record { below = m .below; met = m .met (omega (arith, m .below 0 some)) }
 
+-- ---- one task is passed
+
+-- task i is due
+pub moves-due : {i t s w : ℕ} {next : List ℕ} {due due′ soonest soonest′ : ℕ} → getD next i 0 ≡ t → w ≡ s → BitPut i true due due′ × (due′ < 2 ^ (i + 1)) → soonest′ ≡ min soonest (t + w)
+    → MovesOn i t s next (set next i (t + w)) due due′ soonest soonest′
+moves-due {i} {t} {s} {w} {next} {due} {due′} {soonest} {soonest′} now ew em es =
+    let test : eqb (getD next i 0) t ≡ true = eq-eqb (getD next i 0) t now in
+    record { moved = rw (test, ew); marked = rw test (em .0); small = em .1; least = rw (test, ← ew) es }
+
+-- task i is not due
+pub moves-not : {i t s : ℕ} {next : List ℕ} {due soonest soonest′ : ℕ} → (getD next i 0 ≡ t → ⊥) → due < 2 ^ i → soonest′ ≡ min soonest (getD next i 0)
+    → MovesOn i t s next next due due soonest soonest′
+moves-not {i} {t} {s} {next} {due} later l es =
+    let test : eqb (getD next i 0) t ≡ false = ne-eqb (getD next i 0) t later in
+    record {
+      moved = rw test (sym (set-getD next i 0));
+      marked = rw test (record { here = bit-beyond l i (omega arith); elsewhere = λ k ne. refl });
+      small = lt-of-lt-of-le l (pow-mono {i = i} {j = i + 1} (omega arith));
+      least = rw test es;
+    }
+
 -- ---- a point is passed
 
--- what the loop over the tasks keeps: the first i have moved on
+-- what the loop over the tasks keeps: the first i are passed
 pub record MovingOn (n t : ℕ) (spacing next : List ℕ) (i : ℕ) (next′ : List ℕ) (mask soonest : ℕ) : Type 0 where
   pub ready : BeforePass n t spacing next
   pub so-far : i ≤ n
@@ -114,43 +125,24 @@ moving-none {n} {t} {spacing} {next} r =
 
 module _ {n t : ℕ} {spacing next : List ℕ} {i : ℕ} {next′ : List ℕ} {mask soonest : ℕ} (k : MovingOn n t spacing next i next′ mask soonest) where
   -- what is asked of task i
-  pub moving-near : i < n → (i < tasksMost) × (t ≤ horizonMost)
-  moving-near l = (omega (arith, k .ready .few), k .ready .point)
+  pub moving-near : i < n → (i < tasksMost) × (t ≤ horizonMost) × (mask < 2 ^ i)
+  moving-near l = (omega (arith, k .ready .few), k .ready .point, k .small)
 
-  pub moving-mark : i < n → (i < tasksMost) × (mask < 2 ^ i)
-  moving-mark l = (omega (arith, k .ready .few), k .small)
-
-  old : getD next′ i 0 ≡ getD next i 0
-  old = k .each .beyond i (omega arith)
-
-  -- task i is due
-  pub moving-due : i < n → {next″ : List ℕ} {mask′ soonest′ : ℕ} → getD next′ i 0 ≡ t → next″ ≡ set next′ i (t + getD spacing i 0) → soonest′ ≡ min soonest (t + getD spacing i 0)
-      → BitPut i true mask mask′ × (mask′ < 2 ^ (i + 1)) → MovingOn n t spacing next (i + 1) next″ mask′ soonest′
-  moving-due l {next″} {mask′} {soonest′} now en es em =
-      let later : ℕ = t + getD spacing i 0 in
+  -- task i is passed
+  pub moving-more : i < n → {next″ : List ℕ} {mask′ soonest′ : ℕ} → MovesOn i t (getD spacing i 0) next′ next″ mask mask′ soonest soonest′ → MovingOn n t spacing next (i + 1) next″ mask′ soonest′
+  moving-more l {next″} {mask′} {soonest′} m =
+      let later : ℕ = nextAt spacing t i (getD next′ i 0) in
       let wide : i < length next′ = omega (arith, k .ready .few, k .ready .wide, k .each .same) in
       record {
         ready = k .ready;
         so-far = omega arith;
-        each = rw en (mapped-more i _ _ _ _ wide (k .each) (simp (eq-eqb _ _ now)));
-        least = rw (es, en) (under-more _ _ _ later next′ (set next′ i later) (k .least) (λ j jl. getD-set-other next′ i j later 0 (omega arith)) (sym (getD-set-same next′ i later 0 wide)));
-        due = below-more (λ j. bit mask′ j ≡ eqb (getD next j 0) t) i (λ j jl. em .0 .elsewhere j (λ e. omega arith) ∙ k .due j jl) (em .0 .here ∙ sym (eq-eqb _ _ (sym old ∙ now)));
-        small = em .1;
+        each = rw (m .moved) (mapped-more i later _ next next′ wide (k .each) refl);
+        least = rw (m .least, m .moved) (under-more _ i soonest later next′ (set next′ i later) (k .least) (λ j jl. getD-set-other next′ i j later 0 (omega arith)) (sym (getD-set-same next′ i later 0 wide)));
+        due = below-more (λ j. bit mask′ j ≡ eqb (getD next j 0) t) i (λ j jl. m .marked .elsewhere j (λ e. omega arith) ∙ k .due j jl) (m .marked .here ∙ ap (λ (v : ℕ). eqb v t) (k .each .beyond i (omega arith)));
+        small = m .small;
       }
 
-  -- task i is not due
-  pub moving-skip : i < n → {soonest′ : ℕ} → (getD next′ i 0 ≡ t → ⊥) → soonest′ ≡ min soonest (getD next′ i 0) → MovingOn n t spacing next (i + 1) next′ mask soonest′
-  moving-skip l {soonest′} later es =
-      record {
-        ready = k .ready;
-        so-far = omega arith;
-        each = mapped-skip i _ _ _ (k .each) (rw (ne-eqb _ _ later));
-        least = rw es (under-more _ _ _ _ next′ next′ (k .least) (λ j jl. refl) refl);
-        due = below-more (λ j. bit mask j ≡ eqb (getD next j 0) t) i (k .due) (bit-beyond (k .small) i (omega arith) ∙ sym (ne-eqb _ _ (λ e. later (old ∙ e))));
-        small = lt-of-lt-of-le (k .small) (pow-mono {i = i} {j = i + 1} (omega arith));
-      }
-
-  -- the last task has moved on
+  -- the last task is passed
   pub moving-all : n ≤ i → PointPassed n t spacing next next′ mask soonest
   moving-all le =
       let r = k .ready in

@@ -1,56 +1,47 @@
--- `pass` meets its contract. The invariant is `MovingOn`: the first i tasks have moved on.
+-- `pass` meets its contract. The invariant: there is a task i, and the tasks before it are passed.
 -- Assumes nothing.
-use Prim.Native.Nat.{_-_}
+use Prim.Native.Nat.{_-_, _<_}
 use borrow.Author.Needs.{needs}
 use native.Mathlib.Omega.{arith}
-use Rattle.walk.specs.laws.Deadlines.{MovingOn, moving-all, moving-due, moving-mark, moving-near, moving-none, moving-skip}
+use Rattle.walk.specs.laws.Deadlines.{MovingOn, moving-all, moving-more, moving-near, moving-none}
 use Rattle.walk.proofs.deadlines.pass.Statement.{statement}
 use Rattle.walk.proofs.deadlines.pass.Tie as tie
 
 abbrev Inv-loop : tie.InvT-loop
-Inv-loop n t spacing next₀ due₀ soonest₀ i₀ next due soonest i = MovingOn n t spacing next₀ i next due soonest
+Inv-loop n t spacing next₀ moved₀ i₀ next moved i = (i < n) × MovingOn n t spacing next₀ i next (moved .due) (moved .soonest)
 
 abbrev μ-loop : tie.MeasureT-loop
-μ-loop n t spacing next₀ due₀ soonest₀ i₀ next due soonest i = n - i
+μ-loop n t spacing next₀ moved₀ i₀ next moved i = n - i
 
--- the turn in which a task is due
-abbrev turn : tie.Then1 Inv-loop μ-loop → tie.In-loop Inv-loop μ-loop
-turn c = c .before .before
-
-mul-soonest : tie.Need-mul-soonest Inv-loop μ-loop
-mul-soonest c = search needs
+mul-t7 : tie.Need-mul-t7 Inv-loop μ-loop
+mul-t7 c = search needs
 
 loop-holds : tie.Need-loop-holds Inv-loop μ-loop
-loop-holds c = moving-none (c .pre)
-
-mul-v : tie.Need-mul-v Inv-loop μ-loop
-mul-v c = search needs
-
-element-copy-out-v : tie.Need-element-copy-out-v Inv-loop μ-loop
-element-copy-out-v c = search needs
+loop-holds c = (c .pre .some, moving-none (c .pre))
 
 mul-move-on : tie.Need-mul-move-on Inv-loop μ-loop
 mul-move-on c =
-    let k = turn c in
-    omega (arith, moving-near (k .before .loop .inv) (k .loop-test .taken))
+    let k = c .loop .inv in
+    omega (arith, moving-near (k .1) (k .0))
 
 element-copy-out-move-on : tie.Need-element-copy-out-move-on Inv-loop μ-loop
 element-copy-out-move-on c =
-    let k = turn c in
-    omega (arith, moving-near (k .before .loop .inv) (k .loop-test .taken))
+    let k = c .loop .inv in
+    omega (arith, moving-near (k .1) (k .0))
 
 move-on-requires : tie.Need-move-on-requires Inv-loop μ-loop
 move-on-requires c κs =
-    let k = turn (c .before .before) in
-    moving-near (k .before .loop .inv) (k .loop-test .taken)
-
-mark-requires : tie.Need-mark-requires Inv-loop μ-loop
-mark-requires c κs =
-    let k = turn (c .before .before .before) in
-    moving-mark (k .before .loop .inv) (k .loop-test .taken)
+    let k = c .before .before .loop .inv in
+    moving-near (k .1) (k .0)
 
 add-i : tie.Need-add-i Inv-loop μ-loop
 add-i c = search needs
+
+returns : tie.Need-returns Inv-loop μ-loop
+returns c =
+    let m = c .before in
+    let k = m .before .before .before .loop .inv in
+    moving-all (moving-more (k .1) (k .0) (m .move-on .ensures)) (omega (arith, c .if1 .taken))
 
 loop-less : tie.Need-loop-less Inv-loop μ-loop
 loop-less c = search needs
@@ -58,26 +49,8 @@ loop-less c = search needs
 loop-again : tie.Need-loop-again Inv-loop μ-loop
 loop-again c =
     let m = c .before in
-    let p = m .before .before .before in
-    let k = turn p in
-    moving-due (k .before .loop .inv) (k .loop-test .taken) (p .if1 .taken) (m .move-on .ensures .0) (m .move-on .ensures .1) (c .mark .ensures)
-
-lesser-requires : tie.Need-lesser-requires Inv-loop μ-loop
-lesser-requires c κs = search needs
-
-add-i-2 : tie.Need-add-i-2 Inv-loop μ-loop
-add-i-2 c = search needs
-
-loop-less-2 : tie.Need-loop-less-2 Inv-loop μ-loop
-loop-less-2 c = search needs
-
-loop-again-2 : tie.Need-loop-again-2 Inv-loop μ-loop
-loop-again-2 c =
-    let k = c .before .before .before in
-    moving-skip (k .before .loop .inv) (k .loop-test .taken) (c .before .if1 .left) (c .lesser .ensures)
-
-returns : tie.Need-returns Inv-loop μ-loop
-returns c = moving-all (c .before .loop .inv) (omega arith)
+    let k = m .before .before .before .loop .inv in
+    (omega (arith, c .if1 .left), moving-more (k .1) (k .0) (m .move-on .ensures))
 
 pub pass-spec : {M : Type 1} → statement M
 pass-spec =
@@ -85,19 +58,12 @@ pass-spec =
     (tie.spec
     Inv-loop
     μ-loop
-    mul-soonest
+    mul-t7
     loop-holds
-    mul-v
-    element-copy-out-v
     mul-move-on
     element-copy-out-move-on
     move-on-requires
-    mark-requires
     add-i
+    returns
     loop-less
-    loop-again
-    lesser-requires
-    add-i-2
-    loop-less-2
-    loop-again-2
-    returns)
+    loop-again)
