@@ -6,7 +6,8 @@ use mathlib.Core.Bool.{Bool, true}
 use Prim.Native.Nat.{ℕ}
 use Rattle.finite.specs.Masks.{bit, maskOf}
 use Rattle.records.specs.Ranges.{inRange}
-use Rattle.records.specs.Record.{countsIn, heldIn, recordOf, stateIn, tasksIn}
+use Rattle.records.specs.Record.{recordOf, stateIn}
+use Rattle.records.specs.Held.{countsIn, heldIn, tasksIn}
 use Rattle.records.specs.declared.Dispatcher.{Dispatcher}
 use Rattle.dispatch.specs.declared.steps.Ran.{Ran}
 use Rattle.promise.specs.Rules as rules

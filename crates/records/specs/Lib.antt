@@ -1,3 +1,4 @@
+pub mod Held
 pub mod Record
 pub mod Ranges
 pub mod Taken

@@ -1,38 +1,19 @@
--- DEFINITIONS. Document 01, "The record is held by value": the range of each field, clause by clause in the paragraph's order. The range of the table
--- that a record holds is that of model/Ranges.
+-- DEFINITIONS. Document 01, "The record is held by value": the range of each field, clause by clause in the paragraph's order. The range of what a record
+-- holds that no tick changes stands in Held, that of a table in model/Ranges.
 -- Assumes nothing.
-use mathlib.Core.Path.{_≡_}
 use mathlib.Core.Bool.{Bool, _&&_}
-use Prim.Native.Nat.{ℕ, _-_, _≤_}
+use Prim.Native.Nat.{ℕ, _-_}
 use lib.Dec.{leb, ltb, eqb}
 use lib.ListN.{getD}
 use Rattle.finite.specs.Finite.{allTo}
 use Rattle.finite.specs.If.{if_then_else_}
-use Rattle.model.specs.Phase.{Choice, phasesOf}
-use Rattle.model.specs.Ranges.{InTable, allPhases, numberTest, tableTest, within}
-use Rattle.model.specs.Tasks.{Each, Tasks}
+use Rattle.model.specs.Phase.{Choice}
+use Rattle.model.specs.Ranges.{within}
+use Rattle.model.specs.Tasks.{Tasks}
 use Rattle.promise.specs.Rules.{State, stated}
-use Rattle.records.specs.Record.{Held, countsIn, emptyRecord, heldIn, stateIn, tasksIn}
+use Rattle.records.specs.Held.{countsIn, heldIn, heldTest, tasksIn}
+use Rattle.records.specs.Record.{emptyRecord, stateIn}
 use Rattle.records.specs.declared.Dispatcher.{Dispatcher}
-
--- each count from 1 to the most that its phase may have, which is c; where there is no phase, 0
-pub record CountsIn (S : Tasks) (x : Choice) : Type 0 where
-  pub count-least : Each S (λ i j. 1 ≤ x i j)
-  pub count-most : Each S (λ i j. x i j ≤ phasesOf S .most i j)
-  pub no-count : (i j : ℕ) → S .m i ≤ j → x i j ≡ 0
-
--- what no tick changes of a record, each number in its range
-pub record HeldIn (h : Held) : Type 0 where
-  pub table : InTable (h .table)
-  pub counts : CountsIn (h .table) (h .counts)
-
--- the test of a count
-abbrev pub countTest : Tasks → Choice → ℕ → ℕ → Bool
-countTest S x i j = numberTest (S .m) 1 (phasesOf S .most i j) x i j
-
--- of what no tick changes: the table, then the counts
-unfoldable pub heldTest : Held → Bool
-heldTest h = tableTest (h .table) && allPhases (countTest (h .table) (h .counts))
 
 -- the ticks since a task's last admitted release, 0 to T
 abbrev pub sinceTest : Tasks → State → ℕ → Bool

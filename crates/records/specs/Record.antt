@@ -1,74 +1,19 @@
--- DEFINITIONS. How the dispatcher's record, an array for each field, is read as a table with counts and as the rules' state, and how it is written
--- from them. The rules are those of promise; tasks and phases are numbered from 0. What no tick changes stands in `Fixed` and `Held`, and the record is
--- written in one place, `recordWith`.
+-- DEFINITIONS. How the dispatcher's record, an array for each field, is read as what it holds (Held) and as the rules' state, and how it is written from
+-- them. The rules are those of promise; tasks and phases are numbered from 0.
 -- Assumes nothing.
 use mathlib.Core.Path.{_≡_}
 use mathlib.Core.Bool.{Bool}
-use mathlib.Core.List.{List}
 use Prim.Native.Nat.{ℕ}
 use lib.Dec.{eqb}
 use lib.ListN.{getD, length, replicate}
 use Rattle.finite.specs.Masks.{bit, digit}
 use Rattle.finite.specs.Finite.{listTo}
 use Rattle.records.specs.declared.Dispatcher.{Dispatcher}
-use Rattle.model.specs.Arrays.{Arrays, Sized, arraysAs, arraysFrom, asTasks, byPhase, emptyArrays, phaseAt}
-use Rattle.model.specs.Phase.{Choice}
-use Rattle.model.specs.Tasks.{Tasks}
+use Rattle.model.specs.Arrays.{Sized}
 use Rattle.promise.specs.Rules.{Request, State}
-
--- ---- what no tick changes
-
--- as it stands in arrays: those of the table, and the count of each phase
-pub record Fixed : Type 0 where
-  pub table : Arrays
-  pub counts : List ℕ
-
--- the same in the words of the model: the table's tasks, and a count for each of their phases
-pub record Held : Type 0 where
-  pub table : Tasks
-  pub counts : Choice
-
--- the parts of it one by one
-abbrev pub fixedAs : Arrays → (counts : List ℕ) → Fixed
-fixedAs table counts = record { table = table; counts = counts }
-
--- what the arrays hold
-abbrev pub heldOf : Fixed → Held
-heldOf f = record { table = asTasks (f .table); counts = phaseAt (f .counts) }
-
--- the way back: the arrays that hold it
-abbrev pub fixedOf : Held → Fixed
-fixedOf h = fixedAs (arraysFrom (h .table)) (byPhase (h .counts))
-
--- what a record holds that starts with a table and counts
-abbrev pub heldFor : Tasks → Choice → Held
-heldFor S x = record { table = S; counts = x }
-
--- nothing
-abbrev pub nothingFixed : Fixed
-nothingFixed = fixedAs emptyArrays (replicate 256 0)
+use Rattle.records.specs.Held.{Held, arraysIn, fixedOf, nothingFixed, recordWith}
 
 -- ---- a record, read
-
--- the arrays of its table
-abbrev pub arraysIn : Dispatcher → Arrays
-arraysIn d = arraysAs (d .tasks) (d .spacing) (d .deadline) (d .phases) (d .work) (d .cost)
-
--- all that no tick changes of it
-abbrev pub fixedIn : Dispatcher → Fixed
-fixedIn d = fixedAs (arraysIn d) (d .counts)
-
--- and what that holds
-abbrev pub heldIn : Dispatcher → Held
-heldIn d = heldOf (fixedIn d)
-
--- its table
-abbrev pub tasksIn : Dispatcher → Tasks
-tasksIn d = asTasks (arraysIn d)
-
--- its counts
-abbrev pub countsIn : Dispatcher → Choice
-countsIn d = phaseAt (d .counts)
 
 -- its state: a job is unfinished where the record has 1
 abbrev pub stateIn : Dispatcher → State
@@ -87,25 +32,6 @@ abbrev pub requestOf : ℕ → Bool → Request
 requestOf mask flag = record { mask = bit mask; flag = flag }
 
 -- ---- a record, written
-
--- THE RECORD, field by field: what no tick changes, then what a tick changes
-abbrev pub recordWith : Fixed → (since unfinished left phase piece : List ℕ) → (running ticks : ℕ) → Dispatcher
-recordWith f since unfinished left phase piece running ticks = record {
-  tasks = f .table .tasks;
-  spacing = f .table .spacing;
-  deadline = f .table .deadline;
-  phases = f .table .phases;
-  work = f .table .work;
-  cost = f .table .cost;
-  counts = f .counts;
-  since = since;
-  unfinished = unfinished;
-  left = left;
-  phase = phase;
-  piece = piece;
-  running = running;
-  ticks = ticks;
-}
 
 -- the way back: the record of a table with counts, and of a state, place by place
 abbrev pub recordOf : Held → State → Dispatcher

@@ -5,8 +5,8 @@ use Rattle.model.specs.Phase.{Choice, phasesOf}
 use Rattle.model.specs.Tasks.{Tasks}
 use Rattle.model.specs.Works.{Works}
 use Rattle.promise.specs.Rules.{initial}
-use Rattle.records.specs.Ranges.{HeldIn}
-use Rattle.records.specs.Record.{heldFor, recordOf}
+use Rattle.records.specs.Record.{recordOf}
+use Rattle.records.specs.Held.{HeldIn, heldFor}
 use Rattle.records.specs.declared.Dispatcher.{Dispatcher}
 
 -- a table that the dispatcher may start with: some task, every number in document 01's range, and counts that work

@@ -16,8 +16,7 @@ ghost use Rattle.finite.specs.Finite.{allTo};
 ghost use Rattle.model.specs.Arrays.{arraysAs, asTasks, phaseAt, tasksAlone};
 ghost use Rattle.model.specs.Ranges.{taskTest};
 ghost use Rattle.records.specs.Lent.{changingAll, inPlace, inPlaceAt, jobAt, pieceAt, runIn, sinceAt};
-ghost use Rattle.records.specs.Ranges.{heldTest};
-ghost use Rattle.records.specs.Record.{fixedAs, heldOf};
+ghost use Rattle.records.specs.Held.{fixedAs, heldOf, heldTest};
 
 // ---- what no tick changes
 

@@ -10,7 +10,8 @@ use Rattle.finite.specs.laws.Masks.{bit-maskOf}
 use Rattle.finite.specs.laws.Lists.{filled-more}
 use Rattle.finite.specs.laws.Tests.{cond-false, cond-true}
 use Rattle.promise.specs.Rules.{State, admit, letsIn}
-use Rattle.records.specs.Record.{countsIn, stateIn, tasksIn}
+use Rattle.records.specs.Record.{stateIn}
+use Rattle.records.specs.Held.{countsIn, tasksIn}
 use Rattle.records.specs.declared.Dispatcher.{Dispatcher}
 use Rattle.records.specs.laws.Fields.{Fields, Long}
 use Rattle.dispatch.specs.Steps.{Admits, inState}

@@ -5,7 +5,8 @@ use Prim.Native.Nat.{ℕ, _+_, _-_, _<_, min}
 use lib.ListN.{getD, set}
 use Rattle.finite.specs.laws.Lists.{filled-more}
 use Rattle.promise.specs.Rules.{State, elapse}
-use Rattle.records.specs.Record.{stateIn, tasksIn}
+use Rattle.records.specs.Record.{stateIn}
+use Rattle.records.specs.Held.{tasksIn}
 use Rattle.records.specs.declared.Dispatcher.{Dispatcher}
 use Rattle.records.specs.laws.Fields.{Fields, Long}
 use Rattle.dispatch.specs.Steps.{Elapses}

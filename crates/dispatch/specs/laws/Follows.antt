@@ -12,7 +12,8 @@ use Rattle.model.specs.Tasks.{Tasks}
 use Rattle.promise.specs.Rules.{Answer, State, admit, answerBy, elapse, letsIn, pick, workAt}
 use Rattle.promise.specs.laws.Answers.{answer-lets}
 use Rattle.records.specs.Ranges.{inRange, usable}
-use Rattle.records.specs.Record.{countsIn, heldIn, recordOf, requestOf, stateIn, tasksIn}
+use Rattle.records.specs.Record.{recordOf, requestOf, stateIn}
+use Rattle.records.specs.Held.{countsIn, heldIn, tasksIn}
 use Rattle.records.specs.declared.Dispatcher.{Dispatcher}
 use Rattle.records.specs.laws.Fields.{Fields, Long}
 use Rattle.records.specs.laws.InRange.{range-fields}

@@ -14,7 +14,8 @@ use Rattle.promise.specs.Rules.{State, ahead, best, pick, pickAt, start, stated
 use Rattle.promise.specs.laws.Remaining.{At}
 use Rattle.promise.specs.laws.Urgent.{Best, best-is}
 use Rattle.records.specs.Ranges.{inRange}
-use Rattle.records.specs.Record.{countsIn, stateIn, tasksIn}
+use Rattle.records.specs.Record.{stateIn}
+use Rattle.records.specs.Held.{countsIn, tasksIn}
 use Rattle.records.specs.declared.Dispatcher.{Dispatcher}
 use Rattle.records.specs.laws.Fields.{Fields, Long}
 use Rattle.records.specs.laws.InRange.{range-fields}

@@ -9,8 +9,9 @@ use Rattle.model.specs.Ranges.{phasesMost, tasksMost}
 use Rattle.promise.specs.Rules.{State}
 use Rattle.promise.specs.laws.Kept.{ranged-of}
 use Rattle.promise.specs.laws.Remaining.{Ranged}
-use Rattle.records.specs.Ranges.{HeldIn, inRange}
-use Rattle.records.specs.Record.{Held, countsIn, heldIn, stateIn, tasksIn}
+use Rattle.records.specs.Ranges.{inRange}
+use Rattle.records.specs.Record.{stateIn}
+use Rattle.records.specs.Held.{Held, HeldIn, countsIn, heldIn, tasksIn}
 use Rattle.records.specs.declared.Dispatcher.{Dispatcher}
 use Rattle.records.specs.laws.Fields.{Fields}
 use Rattle.records.specs.laws.Recorded.{read-as, record-in-range}

@@ -10,8 +10,9 @@ use lib.Dec.{eqb}
 use borrow.Author.Tests.{le-ltb}
 use Rattle.finite.specs.Masks.{bit, maskOf}
 use Rattle.finite.specs.laws.Masks.{bit-maskOf, maskOf-lt}
-use Rattle.records.specs.Ranges.{HeldIn, usable}
-use Rattle.records.specs.Record.{Held, heldFor, recordOf, requestOf}
+use Rattle.records.specs.Ranges.{usable}
+use Rattle.records.specs.Record.{recordOf, requestOf}
+use Rattle.records.specs.Held.{Held, HeldIn, heldFor}
 use Rattle.records.specs.Start.{Startable, readyRecord}
 use Rattle.dispatch.specs.Tick.{Ticks, answerFor, answerIn, recordAfter, rulesAnswer}
 use Rattle.dispatch.specs.declared.Answer as code

@@ -10,7 +10,8 @@ use lib.Seq.{set-getD}
 use Rattle.finite.specs.Masks.{digit}
 use Rattle.finite.specs.Finite.{listTo}
 use Rattle.finite.specs.laws.Lists.{filled, filled-all, filled-rest, getD-list}
-use Rattle.records.specs.Record.{fixedIn, recordWith, stateIn}
+use Rattle.records.specs.Record.{stateIn}
+use Rattle.records.specs.Held.{fixedIn, recordWith}
 use Rattle.records.specs.declared.Dispatcher.{Dispatcher}
 use Rattle.records.specs.laws.Fields.{Fields, Long}
 use Rattle.records.specs.laws.Views.{record-of-views}

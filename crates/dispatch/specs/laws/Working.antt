@@ -22,7 +22,8 @@ use Rattle.model.specs.laws.Arrays.{phase-at}
 use Rattle.promise.specs.Rules.{PieceOutcome, State, after, answerBy, done, endsOf, finishesOf, nextPhase, nextPiece, on, outcome, put, workAt}
 use Rattle.promise.specs.laws.Remaining.{At, RunsAt, put-other, put-same}
 use Rattle.records.specs.Ranges.{inRange}
-use Rattle.records.specs.Record.{countsIn, stateIn, tasksIn}
+use Rattle.records.specs.Record.{stateIn}
+use Rattle.records.specs.Held.{countsIn, tasksIn}
 use Rattle.records.specs.declared.Dispatcher.{Dispatcher}
 use Rattle.records.specs.laws.Fields.{Fields, Long}
 use Rattle.records.specs.laws.InRange.{range-fields}

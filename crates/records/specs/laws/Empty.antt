@@ -8,8 +8,9 @@ use Rattle.finite.specs.Finite.{allTo, listTo}
 use Rattle.model.specs.Arrays.{emptyArrays}
 use Rattle.model.specs.Ranges.{tableTest}
 use Rattle.promise.specs.laws.Range.{Zeros}
-use Rattle.records.specs.Ranges.{heldTest, inRange}
-use Rattle.records.specs.Record.{emptyRecord, heldIn, recordOf, stateIn, tasksIn}
+use Rattle.records.specs.Ranges.{inRange}
+use Rattle.records.specs.Record.{emptyRecord, recordOf, stateIn}
+use Rattle.records.specs.Held.{heldIn, heldTest, tasksIn}
 use Rattle.records.specs.declared.Dispatcher.{Dispatcher}
 use Rattle.records.specs.laws.Fields.{Fields, Long}
 use Rattle.records.specs.laws.Held.{none-held, record-long}

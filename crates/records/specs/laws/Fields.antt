@@ -4,8 +4,8 @@ use Prim.Native.Nat.{ℕ, _≤_}
 use lib.ListN.{getD}
 use Rattle.promise.specs.laws.Range.{Range}
 use Rattle.promise.specs.laws.Remaining.{Proper}
-use Rattle.records.specs.Ranges.{HeldIn}
-use Rattle.records.specs.Record.{countsIn, heldIn, stateIn, tasksIn}
+use Rattle.records.specs.Record.{stateIn}
+use Rattle.records.specs.Held.{HeldIn, countsIn, heldIn, tasksIn}
 pub use Rattle.records.specs.Record.{Long}
 use Rattle.records.specs.declared.Dispatcher.{Dispatcher}
 

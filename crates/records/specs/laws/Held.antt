@@ -15,8 +15,8 @@ use Rattle.model.specs.laws.Arrays.{phase-none, phase-past, phases-of}
 use Rattle.model.specs.laws.Places.{at-used, places-decide}
 use Rattle.model.specs.laws.Ranges.{as-from, few-of, from-arrays, none-alike, sized-from, table-decides}
 use Rattle.promise.specs.Rules.{State}
-use Rattle.records.specs.Ranges.{CountsIn, HeldIn, countTest, heldTest}
-use Rattle.records.specs.Record.{Held, Long, arraysIn, countsIn, fixedIn, fixedOf, heldFor, heldIn, heldOf, recordOf, tasksIn}
+use Rattle.records.specs.Record.{Long, recordOf}
+use Rattle.records.specs.Held.{CountsIn, Held, HeldIn, arraysIn, countTest, countsIn, fixedIn, fixedOf, heldFor, heldIn, heldOf, heldTest, tasksIn}
 use Rattle.records.specs.declared.Dispatcher.{Dispatcher}
 
 -- ---- from the arrays to the model and back

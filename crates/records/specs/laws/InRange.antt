@@ -17,8 +17,9 @@ use Rattle.model.specs.laws.Arrays.{beyond}
 use Rattle.promise.specs.Rules.{State, stated}
 use Rattle.promise.specs.laws.Range.{Range}
 use Rattle.promise.specs.laws.Remaining.{Proper, RunsAt}
-use Rattle.records.specs.Ranges.{HeldIn, changingTest, inRange}
-use Rattle.records.specs.Record.{countsIn, heldIn, stateIn, tasksIn}
+use Rattle.records.specs.Ranges.{changingTest, inRange}
+use Rattle.records.specs.Record.{stateIn}
+use Rattle.records.specs.Held.{HeldIn, countsIn, heldIn, tasksIn}
 use Rattle.records.specs.declared.Dispatcher.{Dispatcher}
 use Rattle.records.specs.laws.Fields.{Fields, Long}
 use Rattle.records.specs.laws.Held.{held-decides}

@@ -10,7 +10,8 @@ use Rattle.model.specs.Phase.{Choice}
 use Rattle.model.specs.Tasks.{Tasks}
 use Rattle.model.specs.laws.Arrays.{zeros}
 use Rattle.promise.specs.Rules.{initial}
-use Rattle.records.specs.Record.{Held, Long, heldFor, heldIn, recordOf, stateIn}
+use Rattle.records.specs.Record.{Long, recordOf, stateIn}
+use Rattle.records.specs.Held.{Held, heldFor, heldIn}
 use Rattle.records.specs.Start.{readyRecord}
 use Rattle.records.specs.declared.Dispatcher.{Dispatcher}
 use Rattle.records.specs.laws.Views.{record-of-views}

@@ -6,8 +6,9 @@ use Rattle.finite.specs.laws.Tests.{cond-true}
 use Rattle.promise.specs.Rules.{State}
 use Rattle.promise.specs.laws.Range.{Range}
 use Rattle.promise.specs.laws.Remaining.{Proper}
-use Rattle.records.specs.Ranges.{HeldIn, inRange, usable}
-use Rattle.records.specs.Record.{Held, emptyRecord, heldIn, recordOf, stateIn}
+use Rattle.records.specs.Ranges.{inRange, usable}
+use Rattle.records.specs.Record.{emptyRecord, recordOf, stateIn}
+use Rattle.records.specs.Held.{Held, HeldIn, heldIn}
 use Rattle.records.specs.declared.Dispatcher.{Dispatcher}
 use Rattle.records.specs.laws.Held.{record-long}
 use Rattle.records.specs.laws.InRange.{fields-range}

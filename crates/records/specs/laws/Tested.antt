@@ -17,8 +17,9 @@ use Rattle.model.specs.Tasks.{Tasks}
 use Rattle.model.specs.laws.Ranges.{few-of}
 use Rattle.promise.specs.Rules.{State, stated}
 use Rattle.records.specs.Lent.{changingAll, jobAt, pieceAt, runIn, sinceAt}
-use Rattle.records.specs.Ranges.{changingTest, heldTest, inRange, runTest}
-use Rattle.records.specs.Record.{countsIn, heldIn, stateIn, tasksIn}
+use Rattle.records.specs.Ranges.{changingTest, inRange, runTest}
+use Rattle.records.specs.Record.{stateIn}
+use Rattle.records.specs.Held.{countsIn, heldIn, heldTest, tasksIn}
 use Rattle.records.specs.declared.Dispatcher.{Dispatcher}
 use Rattle.records.specs.laws.Fields.{Long}
 use Rattle.records.specs.laws.Held.{held-decides}

@@ -19,8 +19,8 @@ use Rattle.model.specs.laws.Places.{Few, at-task}
 use Rattle.model.specs.laws.Ranges.{few-of}
 use Rattle.promise.specs.Rules.{State, stated}
 use Rattle.promise.specs.laws.Range.{Range}
-use Rattle.records.specs.Ranges.{HeldIn}
-use Rattle.records.specs.Record.{Held, countsIn, heldIn, recordOf, recordWith, stateIn, tasksIn}
+use Rattle.records.specs.Record.{recordOf, stateIn}
+use Rattle.records.specs.Held.{Held, HeldIn, countsIn, heldIn, recordWith, tasksIn}
 use Rattle.records.specs.declared.Dispatcher.{Dispatcher}
 use Rattle.records.specs.laws.Fields.{Long}
 use Rattle.records.specs.laws.Held.{fixed-of-held, held-of-fixed}

@@ -7,7 +7,7 @@ use Prim.Native.Nat.{ℕ, _≤_, _<_}
 use native.Mathlib.Omega.{arith}
 use borrow.Author.Tests.{le-ltb, lt-ltb}
 use lib.Dec.{ltb}
-use Rattle.records.specs.Ranges.{CountsIn}
+use Rattle.records.specs.Held.{CountsIn}
 use Rattle.records.specs.Start.{Startable}
 use Rattle.records.specs.laws.Held.{held-for}
 use Rattle.dispatch.specs.declared.Answer.{Answer}

@@ -8,7 +8,8 @@ use borrow.Author.Tests.{eq-eqb, ne-eqb}
 use Rattle.finite.specs.Masks.{bit, maskOf}
 use Rattle.promise.specs.Rules.{letsIn}
 use Rattle.records.specs.Ranges.{inRange}
-use Rattle.records.specs.Record.{stateIn, tasksIn}
+use Rattle.records.specs.Record.{stateIn}
+use Rattle.records.specs.Held.{tasksIn}
 use Rattle.records.specs.laws.Fields.{Long}
 use Rattle.records.specs.laws.InRange.{range-fields}
 use Rattle.dispatch.specs.laws.Admitting.{admits-by, admittedState, begins, scan-is, stays}

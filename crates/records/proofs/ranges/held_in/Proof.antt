@@ -11,8 +11,7 @@ use Rattle.model.specs.Arrays.{arraysAs, asTasks, phaseAt, tasksAlone}
 use Rattle.model.specs.Ranges.{costMost, tableTest, taskTest, tasksMost, workMost}
 use Rattle.model.specs.laws.Arrays.{phase-place}
 use Rattle.records.specs.Lent.{inPlaceAt}
-use Rattle.records.specs.Ranges.{heldTest}
-use Rattle.records.specs.Record.{fixedAs, heldOf}
+use Rattle.records.specs.Held.{fixedAs, heldOf, heldTest}
 use Rattle.records.specs.laws.Lent.{after-all, after-more, after-none, after-one, all-in-place, allAfter, under-last, works-some}
 use borrow.Author.Needs.{needs}
 use denote.Ref.{now}
