@@ -51,29 +51,41 @@ phaseNumbers = record { least = 1; most = workMost } ∷ record { least = 0; mos
 -- ---- what is asked
 
 -- T, D and the number of phases of a task
-pub record TaskIn (S : Tasks) (i : ℕ) : Type 0 where
-  pub spacing-least : 1 ≤ S .T i
-  pub spacing-most : S .T i ≤ spacingMost
-  pub deadline-least : 1 ≤ S .D i
-  pub deadline-most : S .D i ≤ S .T i
-  pub phases-least : 1 ≤ S .m i
-  pub phases-most : S .m i ≤ phasesMost
+pub record TaskRange (T D m : ℕ) : Type 0 where
+  pub spacing-least : 1 ≤ T
+  pub spacing-most : T ≤ spacingMost
+  pub deadline-least : 1 ≤ D
+  pub deadline-most : D ≤ T
+  pub phases-least : 1 ≤ m
+  pub phases-most : m ≤ phasesMost
+
+abbrev pub TaskIn : Tasks → ℕ → Type 0
+TaskIn S i = TaskRange (S .T i) (S .D i) (S .m i)
 
 -- c and q of a phase
-pub record PhaseIn (S : Tasks) (i j : ℕ) : Type 0 where
-  pub work-least : 1 ≤ S .c i j
-  pub work-most : S .c i j ≤ workMost
-  pub cost-most : S .q i j ≤ costMost
+pub record PhaseRange (c q : ℕ) : Type 0 where
+  pub work-least : 1 ≤ c
+  pub work-most : c ≤ workMost
+  pub cost-most : q ≤ costMost
+
+abbrev pub PhaseIn : Tasks → ℕ → ℕ → Type 0
+PhaseIn S i j = PhaseRange (S .c i j) (S .q i j)
 
 -- where there is no task, or no phase, there is 0
-pub record NoTask (S : Tasks) (i : ℕ) : Type 0 where
-  pub no-spacing : S .T i ≡ 0
-  pub no-deadline : S .D i ≡ 0
-  pub no-phases : S .m i ≡ 0
+pub record TaskZero (T D m : ℕ) : Type 0 where
+  pub no-spacing : T ≡ 0
+  pub no-deadline : D ≡ 0
+  pub no-phases : m ≡ 0
 
-pub record NoPhase (S : Tasks) (i j : ℕ) : Type 0 where
-  pub no-work : S .c i j ≡ 0
-  pub no-cost : S .q i j ≡ 0
+abbrev pub NoTask : Tasks → ℕ → Type 0
+NoTask S i = TaskZero (S .T i) (S .D i) (S .m i)
+
+pub record PhaseZero (c q : ℕ) : Type 0 where
+  pub no-work : c ≡ 0
+  pub no-cost : q ≡ 0
+
+abbrev pub NoPhase : Tasks → ℕ → ℕ → Type 0
+NoPhase S i j = PhaseZero (S .c i j) (S .q i j)
 
 -- every item of a table is in its range, and unused places are 0
 pub record InTable (S : Tasks) : Type 0 where

@@ -1,6 +1,6 @@
 -- The range of a table, number by number: its test decides it; the arrays of a table in range hold that table; a number put in its range is in it.
 -- Assumes nothing.
-use mathlib.Core.Path.{_≡_, refl, sym, _∙_}
+use mathlib.Core.Path.{_≡_, refl, sym, _∙_, subst}
 use mathlib.Core.List.{List}
 use Prim.Native.Nat.{ℕ, _+_, _*_, _/_, _%_, _≤_, _<_}
 use native.Mathlib.Decide.{decLt}
@@ -11,7 +11,7 @@ use Rattle.finite.specs.laws.Decided.{both, by-test, every, restated, three, un
 use Rattle.finite.specs.laws.Lists.{length-list, list-of}
 use Rattle.finite.specs.laws.Tests.{Decides, eqb-decides, leb-decides, ltb-decides}
 use Rattle.model.specs.Arrays.{Arrays, Sized, arraysFrom, asTasks, emptyArrays, withCount, withPhase, withTask}
-use Rattle.model.specs.Ranges.{InTable, NoPhase, NoTask, PhaseIn, TaskIn, costMost, phaseNumbers, phasesMost, spacingMost, tableTest, taskTest, tasksMost, workMost}
+use Rattle.model.specs.Ranges.{InTable, NoPhase, NoTask, PhaseIn, PhaseRange, PhaseZero, TaskIn, TaskRange, TaskZero, costMost, phaseNumbers, phasesMost, spacingMost, tableTest, taskTest, tasksMost, workMost}
 use Rattle.model.specs.Tasks.{Each, Tasks}
 use Rattle.model.specs.laws.Arrays.{beyond, phase-else, phase-here, phases-of, task-else, task-here, zeros, zeros-phase}
 use Rattle.model.specs.laws.Places.{AllIn, Few, at-task, at-used, number-decides, number-in}
@@ -203,36 +203,22 @@ module _ (a : Arrays) (i spacing deadline phases : ℕ) where
         phases-most = omega (arith, em);
       }
 
-  -- every other task is as it was
+  -- every other task is as it was, and so is every phase
   module _ (b : ℕ) (other : b ≡ i → ⊥) where
-    abbrev eT : asTasks put-task .T b ≡ asTasks a .T b
-    eT = task-else (a .spacing) spacing b i other
+    abbrev eT : asTasks a .T b ≡ asTasks put-task .T b
+    eT = sym (task-else (a .spacing) spacing b i other)
 
-    abbrev eD : asTasks put-task .D b ≡ asTasks a .D b
-    eD = task-else (a .deadline) deadline b i other
+    abbrev eD : asTasks a .D b ≡ asTasks put-task .D b
+    eD = sym (task-else (a .deadline) deadline b i other)
 
-    pub phases-else : asTasks put-task .m b ≡ asTasks a .m b
-    phases-else = task-else (a .phases) phases b i other
+    pub phases-else : asTasks a .m b ≡ asTasks put-task .m b
+    phases-else = sym (task-else (a .phases) phases b i other)
 
     pub task-kept : TaskIn (asTasks a) b → TaskIn (asTasks put-task) b
-    task-kept h = record {
-      spacing-least = omega (arith, eT, h .spacing-least);
-      spacing-most = omega (arith, eT, h .spacing-most);
-      deadline-least = omega (arith, eD, h .deadline-least);
-      deadline-most = omega (arith, eT, eD, h .deadline-most);
-      phases-least = omega (arith, phases-else, h .phases-least);
-      phases-most = omega (arith, phases-else, h .phases-most);
-    }
+    task-kept h = subst (λ (P : Type 0). P) (λ k. TaskRange (eT k) (eD k) (phases-else k)) h
 
     pub no-task-kept : NoTask (asTasks a) b → NoTask (asTasks put-task) b
-    no-task-kept h = record { no-spacing = eT ∙ h .no-spacing; no-deadline = eD ∙ h .no-deadline; no-phases = phases-else ∙ h .no-phases }
-
-  -- and every phase
-  pub phases-kept : (b j : ℕ) → PhaseIn (asTasks a) b j → PhaseIn (asTasks put-task) b j
-  phases-kept b j h = record { work-least = h .work-least; work-most = h .work-most; cost-most = h .cost-most }
-
-  pub no-phases-kept : (b j : ℕ) → NoPhase (asTasks a) b j → NoPhase (asTasks put-task) b j
-  no-phases-kept b j h = record { no-work = h .no-work; no-cost = h .no-cost }
+    no-task-kept h = subst (λ (P : Type 0). P) (λ k. TaskZero (eT k) (eD k) (phases-else k)) h
 
 -- a phase put
 module _ (a : Arrays) (k : ℕ) (numbers : List ℕ) where
@@ -248,33 +234,19 @@ module _ (a : Arrays) (k : ℕ) (numbers : List ℕ) where
     cost = length-set (a .cost) k (getD numbers 1 0) ∙ s .cost;
   }
 
-  -- every other phase is as it was
+  -- every other phase is as it was, and so is every task
   module _ (b j : ℕ) (other : j < 8 → 8 * b + j ≡ k → ⊥) where
-    abbrev ec : asTasks put-phase .c b j ≡ asTasks a .c b j
-    ec = phase-else (a .work) (getD numbers 0 0) b j k other
+    abbrev ec : asTasks a .c b j ≡ asTasks put-phase .c b j
+    ec = sym (phase-else (a .work) (getD numbers 0 0) b j k other)
 
-    abbrev eq : asTasks put-phase .q b j ≡ asTasks a .q b j
-    eq = phase-else (a .cost) (getD numbers 1 0) b j k other
+    abbrev eq : asTasks a .q b j ≡ asTasks put-phase .q b j
+    eq = sym (phase-else (a .cost) (getD numbers 1 0) b j k other)
 
     pub phase-kept : PhaseIn (asTasks a) b j → PhaseIn (asTasks put-phase) b j
-    phase-kept h = record { work-least = omega (arith, ec, h .work-least); work-most = omega (arith, ec, h .work-most); cost-most = omega (arith, eq, h .cost-most) }
+    phase-kept h = subst (λ (P : Type 0). P) (λ t. PhaseRange (ec t) (eq t)) h
 
     pub no-phase-kept : NoPhase (asTasks a) b j → NoPhase (asTasks put-phase) b j
-    no-phase-kept h = record { no-work = ec ∙ h .no-work; no-cost = eq ∙ h .no-cost }
-
-  -- and every task
-  pub tasks-kept : (b : ℕ) → TaskIn (asTasks a) b → TaskIn (asTasks put-phase) b
-  tasks-kept b h = record {
-    spacing-least = h .spacing-least;
-    spacing-most = h .spacing-most;
-    deadline-least = h .deadline-least;
-    deadline-most = h .deadline-most;
-    phases-least = h .phases-least;
-    phases-most = h .phases-most;
-  }
-
-  pub no-tasks-kept : (b : ℕ) → NoTask (asTasks a) b → NoTask (asTasks put-phase) b
-  no-tasks-kept b h = record { no-spacing = h .no-spacing; no-deadline = h .no-deadline; no-phases = h .no-phases }
+    no-phase-kept h = subst (λ (P : Type 0). P) (λ t. PhaseZero (ec t) (eq t)) h
 
 -- numbers of a phase, each in its range
 pub phase-put : (a : Arrays) (k : ℕ) (numbers : List ℕ) → Sized a → AllIn phaseNumbers numbers → (b j : ℕ) → j < 8 → 8 * b + j ≡ k → k < 256

@@ -24,8 +24,8 @@ use Rattle.pieces.specs.laws.Sums.{sum-most}
 -- ---- a phase
 
 -- the range of a table's phase is what the arithmetic asks
-pub work-in : {S : Tasks} {i j : ℕ} → PhaseIn S i j → WorkIn (S .c i j) (S .q i j)
-work-in p = record { work-least = p .work-least; work-most = p .work-most; cost-most = p .cost-most }
+pub work-in : (S : Tasks) (i j : ℕ) → PhaseIn S i j → WorkIn (S .c i j) (S .q i j)
+work-in S i j p = record { work-least = p .work-least; work-most = p .work-most; cost-most = p .cost-most }
 
 -- no count that is needed is above the work
 pub need-most : (c q M : ℕ) → hasRoom q M ≡ true → needed c q M ≤ c

@@ -70,7 +70,7 @@ loop-less c = search needs
 
 loop-again : tie.Need-loop-again Inv-loop μ-loop
 loop-again c =
-    let h = c .before .before .before .before in
+    let h : tie.After-head Inv-loop μ-loop = search needs in
     let l = h .before in (
       l .before .loop .inv .0,
       go-on (l .before .loop .inv .1)
