@@ -11,7 +11,7 @@ ghost use Rattle.model.specs.Arrays.{phaseAt};
 ghost use Rattle.model.specs.Ranges.{workMost};
 ghost use Rattle.pieces.specs.Bounds.{pieceMost};
 ghost use Rattle.pieces.specs.Counts.{countAt, longestAt};
-ghost use Rattle.pieces.specs.Held.{held};
+ghost use Rattle.pieces.specs.Bare.{bareTasks};
 ghost use Rattle.pieces.specs.Task.{InPieces, Roomy};
 
 // The count at a place: the least for its task's margin, and 0 where no phase stands.
@@ -23,8 +23,8 @@ fn count_at<'a>(
     cost: &'a [u32; 256],
     cuts: &'a [u64; 32],
 ) -> u64
-    requires { ⌜ (place < 256) × Below tasks (λ i. Roomy (held (now phases) (now work) (now cost)) (getD (now cuts) i 0) i) ⌝ }
-    ensures { λ r. ⌜ (r ≡ countAt tasks (held (now (phases .entry)) (now (work .entry)) (now (cost .entry))) (λ i. getD (now (cuts .entry)) i 0) place) × (r ≤ workMost) ⌝ }
+    requires { ⌜ (place < 256) × Below tasks (λ i. Roomy (bareTasks (now phases) (now work) (now cost)) (getD (now cuts) i 0) i) ⌝ }
+    ensures { λ r. ⌜ (r ≡ countAt tasks (bareTasks (now (phases .entry)) (now (work .entry)) (now (cost .entry))) (λ i. getD (now (cuts .entry)) i 0) place) × (r ≤ workMost) ⌝ }
 {
     let i = place / 8;
     let j = place % 8;
@@ -45,8 +45,8 @@ pub fn counts<'a>(
     cost: &'a [u32; 256],
     cuts: &'a [u64; 32],
 ) -> [u32; 256]
-    requires { ⌜ Below tasks (λ i. Roomy (held (now phases) (now work) (now cost)) (getD (now cuts) i 0) i) ⌝ }
-    ensures { λ r. ⌜ r ≡ listTo 256 (countAt tasks (held (now (phases .entry)) (now (work .entry)) (now (cost .entry))) (λ i. getD (now (cuts .entry)) i 0)) ⌝ }
+    requires { ⌜ Below tasks (λ i. Roomy (bareTasks (now phases) (now work) (now cost)) (getD (now cuts) i 0) i) ⌝ }
+    ensures { λ r. ⌜ r ≡ listTo 256 (countAt tasks (bareTasks (now (phases .entry)) (now (work .entry)) (now (cost .entry))) (λ i. getD (now (cuts .entry)) i 0)) ⌝ }
 {
     let mut all = [0u32; 256];
     let mut place: usize = 0;
@@ -66,8 +66,8 @@ fn longest_at<'a>(
     cost: &'a [u32; 256],
     counts: &'a [u32; 256],
 ) -> u64
-    requires { ⌜ Below tasks (InPieces (held (now phases) (now work) (now cost)) (phaseAt (now counts))) ⌝ }
-    ensures { λ r. ⌜ (r ≡ longestAt tasks (held (now (phases .entry)) (now (work .entry)) (now (cost .entry))) (phaseAt (now (counts .entry))) i) × (r ≤ pieceMost) ⌝ }
+    requires { ⌜ Below tasks (InPieces (bareTasks (now phases) (now work) (now cost)) (phaseAt (now counts))) ⌝ }
+    ensures { λ r. ⌜ (r ≡ longestAt tasks (bareTasks (now (phases .entry)) (now (work .entry)) (now (cost .entry))) (phaseAt (now (counts .entry))) i) × (r ≤ pieceMost) ⌝ }
 {
     if tasks <= i {
         return 0;
@@ -83,8 +83,8 @@ pub fn longests<'a>(
     cost: &'a [u32; 256],
     counts: &'a [u32; 256],
 ) -> [u32; 32]
-    requires { ⌜ Below tasks (InPieces (held (now phases) (now work) (now cost)) (phaseAt (now counts))) ⌝ }
-    ensures { λ r. ⌜ r ≡ listTo 32 (longestAt tasks (held (now (phases .entry)) (now (work .entry)) (now (cost .entry))) (phaseAt (now (counts .entry)))) ⌝ }
+    requires { ⌜ Below tasks (InPieces (bareTasks (now phases) (now work) (now cost)) (phaseAt (now counts))) ⌝ }
+    ensures { λ r. ⌜ r ≡ listTo 32 (longestAt tasks (bareTasks (now (phases .entry)) (now (work .entry)) (now (cost .entry))) (phaseAt (now (counts .entry)))) ⌝ }
 {
     let mut all = [0u32; 32];
     let mut i: usize = 0;

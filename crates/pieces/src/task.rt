@@ -13,7 +13,7 @@ ghost use Rattle.model.specs.Ranges.{horizonMost, phasesMost, tasksMost};
 ghost use Rattle.model.specs.Phase.{phasesOf};
 ghost use Rattle.model.specs.Works as works;
 ghost use Rattle.pieces.specs.Bounds.{phaseMost, pieceMost};
-ghost use Rattle.pieces.specs.Held.{held, needs, phasesIn};
+ghost use Rattle.pieces.specs.Bare.{bareTasks, needs, phasesIn};
 ghost use Rattle.pieces.specs.Task.{InPieces, PhaseFits, Roomy};
 
 // What stands at phase j of task i.
@@ -92,8 +92,8 @@ pub fn budget_under<'a>(
     work: &'a [u32; 256],
     cost: &'a [u32; 256],
 ) -> u64
-    requires { ⌜ Roomy (held (now phases) (now work) (now cost)) margin i ⌝ }
-    ensures { λ r. ⌜ r ≡ phasesOf (held (now (phases .entry)) (now (work .entry)) (now (cost .entry))) .budget (needs (phasesIn (now (work .entry)) (now (cost .entry))) margin) i ⌝ }
+    requires { ⌜ Roomy (bareTasks (now phases) (now work) (now cost)) margin i ⌝ }
+    ensures { λ r. ⌜ r ≡ phasesOf (bareTasks (now (phases .entry)) (now (work .entry)) (now (cost .entry))) .budget (needs (phasesIn (now (work .entry)) (now (cost .entry))) margin) i ⌝ }
 {
     let many = size(phases[i]);
     let mut sum: u64 = 0;
@@ -113,8 +113,8 @@ pub fn longest_of<'a>(
     cost: &'a [u32; 256],
     counts: &'a [u32; 256],
 ) -> u64
-    requires { ⌜ InPieces (held (now phases) (now work) (now cost)) (phaseAt (now counts)) i ⌝ }
-    ensures { λ r. ⌜ (r ≡ works.longest (held (now (phases .entry)) (now (work .entry)) (now (cost .entry))) (phasesOf (held (now (phases .entry)) (now (work .entry)) (now (cost .entry)))) (phaseAt (now (counts .entry))) i) × (r ≤ pieceMost) ⌝ }
+    requires { ⌜ InPieces (bareTasks (now phases) (now work) (now cost)) (phaseAt (now counts)) i ⌝ }
+    ensures { λ r. ⌜ (r ≡ works.longest (bareTasks (now (phases .entry)) (now (work .entry)) (now (cost .entry))) (phasesOf (bareTasks (now (phases .entry)) (now (work .entry)) (now (cost .entry)))) (phaseAt (now (counts .entry))) i) × (r ≤ pieceMost) ⌝ }
 {
     let many = size(phases[i]);
     let mut top: u64 = 0;

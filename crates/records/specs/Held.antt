@@ -89,15 +89,15 @@ recordWith f since unfinished left phase piece running ticks = record {
 -- ---- its range
 
 -- each count from 1 to the most that its phase may have, which is c; where there is no phase, 0
-pub record CountsIn (S : Tasks) (x : Choice) : Type 0 where
+pub record CountsInRange (S : Tasks) (x : Choice) : Type 0 where
   pub count-least : Each S (λ i j. 1 ≤ x i j)
   pub count-most : Each S (λ i j. x i j ≤ phasesOf S .most i j)
   pub no-count : (i j : ℕ) → S .m i ≤ j → x i j ≡ 0
 
 -- what no tick changes of a record, each number in its range
-pub record HeldIn (h : Held) : Type 0 where
+pub record HeldInRange (h : Held) : Type 0 where
   pub table : InTable (h .table)
-  pub counts : CountsIn (h .table) (h .counts)
+  pub counts : CountsInRange (h .table) (h .counts)
 
 -- the test of a count
 abbrev pub countTest : Tasks → Choice → ℕ → ℕ → Bool

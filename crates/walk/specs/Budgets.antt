@@ -13,7 +13,7 @@ use Rattle.model.specs.Arrays.{Arrays}
 use Rattle.model.specs.Ranges.{tasksMost}
 use Rattle.model.specs.Phase.{phasesOf}
 use Rattle.pieces.specs.Bounds.{budgetMost}
-use Rattle.pieces.specs.Held.{held, needs, phasesIn}
+use Rattle.pieces.specs.Bare.{bareTasks, needs, phasesIn}
 use Rattle.pieces.specs.Task.{Roomy}
 use Rattle.walk.specs.Deadlines.{Mapped}
 
@@ -23,7 +23,7 @@ addedMost = tasksMost * budgetMost
 
 -- the budget of task i whose counts are the least for a margin
 abbrev pub leastBudget : Arrays → ℕ → ℕ → ℕ
-leastBudget a M i = phasesOf (held (a .phases) (a .work) (a .cost)) .budget (needs (phasesIn (a .work) (a .cost)) M) i
+leastBudget a M i = phasesOf (bareTasks (a .phases) (a .work) (a .cost)) .budget (needs (phasesIn (a .work) (a .cost)) M) i
 
 -- what is known of a task from its deadline d on: the new value at t, which is its deadline, otherwise the old one
 abbrev pub settled : ℕ → ℕ → ℕ → ℕ → ℕ
@@ -55,7 +55,7 @@ pub record BeforeSum (a : Arrays) (t low : ℕ) (due : ℕ → Bool) (budgets ma
   pub budget-wide : length budgets ≡ 32
   pub cuts-wide : length margins ≡ 32
   pub bounded : Below tasksMost (λ i. due i ≡ true → getD budgets i 0 ≤ budgetMost)
-  pub roomy : Below tasksMost (λ i. due i ≡ true → getD (a .deadline) i 0 ≡ t → Roomy (held (a .phases) (a .work) (a .cost)) low i)
+  pub roomy : Below tasksMost (λ i. due i ≡ true → getD (a .deadline) i 0 ≡ t → Roomy (bareTasks (a .phases) (a .work) (a .cost)) low i)
 
 -- the tasks that are due at t have their budgets and margins, and `added` is what their budgets come to
 pub record AddedUp (a : Arrays) (t low : ℕ) (due : ℕ → Bool) (budgets margins budgets′ margins′ : List ℕ) (added : ℕ) : Type 0 where

@@ -7,7 +7,7 @@ use lib.ListN.{getD}
 use Rattle.finite.specs.Finite.{Below}
 use Rattle.model.specs.Arrays.{Arrays}
 use Rattle.model.specs.Ranges.{phasesMost, tasksMost}
-use Rattle.pieces.specs.Held.{phasesIn}
+use Rattle.pieces.specs.Bare.{phasesIn}
 
 -- r is the first index below n at which P holds, or n where there is none
 pub record FirstWhere (n : ℕ) (P : ℕ → Type 0) (r : ℕ) : Type 0 where

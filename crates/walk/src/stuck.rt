@@ -9,7 +9,7 @@ ghost use Prim.Native.Nat.{_+_, _-_, _≤_, _<_};
 ghost use lib.ListN.{getD};
 ghost use Rattle.finite.specs.Finite.{Below};
 ghost use Rattle.model.specs.Ranges.{phasesMost};
-ghost use Rattle.pieces.specs.Held.{phasesIn};
+ghost use Rattle.pieces.specs.Bare.{phasesIn};
 ghost use Rattle.walk.specs.Stuck.{BeforeStop, FirstWhere, PointJudged, Stuck};
 ghost use Rattle.model.specs.Arrays.{arraysAs};
 

@@ -11,7 +11,7 @@ use Rattle.promise.specs.laws.Kept.{ranged-of}
 use Rattle.promise.specs.laws.Remaining.{Ranged}
 use Rattle.records.specs.Ranges.{inRange}
 use Rattle.records.specs.Record.{stateIn}
-use Rattle.records.specs.Held.{Held, HeldIn, countsIn, heldIn, tasksIn}
+use Rattle.records.specs.Held.{Held, HeldInRange, countsIn, heldIn, tasksIn}
 use Rattle.records.specs.declared.Dispatcher.{Dispatcher}
 use Rattle.records.specs.laws.Fields.{Fields}
 use Rattle.records.specs.laws.Recorded.{read-as, record-in-range}
@@ -19,7 +19,7 @@ use Rattle.dispatch.specs.Steps.{inState}
 use Rattle.dispatch.specs.laws.Keeps.{Keeps}
 
 -- what promise's theory asks of a table's phases
-pub table-ranged : (h : Held) → HeldIn h → Below (h .table .n) (Ranged (h .table) (h .counts))
+pub table-ranged : (h : Held) → HeldInRange h → Below (h .table .n) (Ranged (h .table) (h .counts))
 table-ranged h held =
     ranged-of (h .table) (h .counts) (λ i l. held .table .task i l .phases-least) (λ i j l k. held .counts .count-least i j l k)
     (λ i j l k. held .counts .count-most i j l k)

@@ -12,7 +12,7 @@ use Rattle.finite.specs.Masks.{bit, maskOf}
 use Rattle.finite.specs.laws.Masks.{bit-maskOf, maskOf-lt}
 use Rattle.records.specs.Ranges.{usable}
 use Rattle.records.specs.Record.{recordOf, requestOf}
-use Rattle.records.specs.Held.{Held, HeldIn, heldFor}
+use Rattle.records.specs.Held.{Held, HeldInRange, heldFor}
 use Rattle.records.specs.Start.{Startable, readyRecord}
 use Rattle.dispatch.specs.Tick.{Ticks, answerFor, answerIn, recordAfter, rulesAnswer}
 use Rattle.dispatch.specs.declared.Answer as code
@@ -31,7 +31,7 @@ use Rattle.promise.specs.laws.Remaining.{Proper}
 use Rattle.promise.specs.laws.Ticking.{proper}
 
 -- ---- a table's record in a state that the rules keep
-module _ (h : Held) (held : HeldIn h) (s : State) (range : Range (h .table) s) (good : Proper (h .table) (h .counts) s) where
+module _ (h : Held) (held : HeldInRange h) (s : State) (range : Range (h .table) s) (good : Proper (h .table) (h .counts) s) where
   abbrev e : Dispatcher
   e = recordOf h s
 
@@ -80,7 +80,7 @@ module _ (S : Tasks) (x : Choice) (may : Startable S x) (d : ℕ → Dispatcher)
   abbrev h : Held
   h = heldFor S x
 
-  abbrev held : HeldIn h
+  abbrev held : HeldInRange h
   held = may .held
 
   abbrev ask : ℕ → Request

@@ -1,18 +1,18 @@
 -- The range of a table, number by number: its test decides it; the arrays of a table in range hold that table; a number put in its range is in it.
 -- Assumes nothing.
 use mathlib.Core.Path.{_≡_, refl, sym, _∙_, subst}
-use mathlib.Core.List.{List}
+use mathlib.Core.List.{List, [], _∷_}
 use Prim.Native.Nat.{ℕ, _+_, _*_, _/_, _%_, _≤_, _<_}
 use native.Mathlib.Decide.{decLt}
 use native.Mathlib.Omega.{arith}
-use lib.ListN.{length, getD, length-set}
+use lib.ListN.{getD, length-set}
 use Rattle.finite.specs.Finite.{Below}
 use Rattle.finite.specs.laws.Decided.{both, by-test, every, restated, three, under, within-decides}
 use Rattle.finite.specs.laws.Lists.{length-list, list-of}
 use Rattle.finite.specs.laws.Tests.{Decides, eqb-decides, leb-decides, ltb-decides}
 use Rattle.model.specs.Arrays.{Arrays, Sized, arraysFrom, asTasks, emptyArrays, withCount, withPhase, withTask}
 use Rattle.model.specs.Ranges.{InTable, NoPhase, NoTask, PhaseIn, PhaseRange, PhaseZero, TaskIn, TaskRange, TaskZero, costMost, phaseNumbers, phasesMost, spacingMost, tableTest, taskTest, tasksMost, workMost}
-use Rattle.model.specs.Tasks.{Each, Tasks}
+use Rattle.model.specs.Tasks.{Tasks}
 use Rattle.model.specs.laws.Arrays.{beyond, phase-else, phase-here, phases-of, task-else, task-here, zeros, zeros-phase}
 use Rattle.model.specs.laws.Places.{AllIn, Few, at-task, at-used, number-decides, number-in}
 
@@ -257,3 +257,7 @@ phase-put a k numbers s h b j few e l =
     let c = number-in phaseNumbers numbers h 0 (omega arith) in
     let q = number-in phaseNumbers numbers h 1 (omega arith) in
     record { work-least = omega (arith, ec, c .0); work-most = omega (arith, ec, c .1); cost-most = omega (arith, eq, q .1) }
+
+-- and back: a phase in range has its numbers in the ranges of the list
+pub phase-numbers : (S : Tasks) (i j : ℕ) → PhaseIn S i j → AllIn phaseNumbers (S .c i j ∷ S .q i j ∷ [])
+phase-numbers S i j p = (p .work-least, p .work-most, (omega arith, p .cost-most, tt))

@@ -9,7 +9,7 @@ use Rattle.model.specs.Tasks.{Tasks}
 use Rattle.model.specs.Works.{longest}
 use Rattle.model.specs.laws.Plain.{pieces-of}
 use Rattle.pieces.specs.Bounds.{phaseMost, pieceMost}
-use Rattle.pieces.specs.Held.{needs}
+use Rattle.pieces.specs.Bare.{needs}
 use Rattle.pieces.specs.Task.{InPieces, PhaseFits, Roomy}
 use Rattle.pieces.specs.laws.Sums.{max-more, max-none, sum-more, sum-none}
 

@@ -17,7 +17,7 @@ use Rattle.model.specs.Tasks.{Tasks}
 use Rattle.model.specs.Works.{longest}
 use Rattle.model.specs.laws.Plain.{ceil-least, ceil-most, ceil-pos, pieces-of}
 use Rattle.pieces.specs.Bounds.{budgetMost, phaseMost, pieceMost}
-use Rattle.pieces.specs.Held.{held, needs}
+use Rattle.pieces.specs.Bare.{bareTasks, needs}
 use Rattle.pieces.specs.Task.{InPieces, PhaseFits, Roomy, WorkIn}
 use Rattle.pieces.specs.laws.Sums.{sum-most}
 
@@ -96,7 +96,7 @@ need-far S i j p =
 module _ (a : Arrays) where
   -- the tasks that the arrays hold as far as phases go
   abbrev bare : Tasks
-  bare = held (a .phases) (a .work) (a .cost)
+  bare = bareTasks (a .phases) (a .work) (a .cost)
 
   pub roomy-bare : {M i : ℕ} → Roomy (asTasks a) M i → Roomy bare M i
   roomy-bare r = record { task = r .task; few = r .few; low = r .low; phase = r .phase; room = r .room }

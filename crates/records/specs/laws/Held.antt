@@ -16,7 +16,7 @@ use Rattle.model.specs.laws.Places.{at-used, places-decide}
 use Rattle.model.specs.laws.Ranges.{as-from, few-of, from-arrays, none-alike, sized-from, table-decides}
 use Rattle.promise.specs.Rules.{State}
 use Rattle.records.specs.Record.{Long, recordOf}
-use Rattle.records.specs.Held.{CountsIn, Held, HeldIn, arraysIn, countTest, countsIn, fixedIn, fixedOf, heldFor, heldIn, heldOf, heldTest, tasksIn}
+use Rattle.records.specs.Held.{CountsInRange, Held, HeldInRange, arraysIn, countTest, countsIn, fixedIn, fixedOf, heldFor, heldIn, heldOf, heldTest, tasksIn}
 use Rattle.records.specs.declared.Dispatcher.{Dispatcher}
 
 -- ---- from the arrays to the model and back
@@ -28,7 +28,7 @@ fixed-of-held d long = λ k.
       counts = phases-of (d .counts) (long .counts) k;
     }
 
-pub held-of-fixed : (h : Held) → HeldIn h → heldOf (fixedOf h) ≡ h
+pub held-of-fixed : (h : Held) → HeldInRange h → heldOf (fixedOf h) ≡ h
 held-of-fixed h range = λ k.
     record {
       table = as-from (h .table) (range .table) k;
@@ -49,7 +49,7 @@ record-long h s = record {
 
 -- ---- the test decides the range
 
-counts-decide : (d : Dispatcher) → Long d → InTable (tasksIn d) → Decides (allPhases (countTest (tasksIn d) (countsIn d))) (CountsIn (tasksIn d) (countsIn d))
+counts-decide : (d : Dispatcher) → Long d → InTable (tasksIn d) → Decides (allPhases (countTest (tasksIn d) (countsIn d))) (CountsInRange (tasksIn d) (countsIn d))
 counts-decide d long t =
     restated
     (λ h. record { count-least = λ i j l k. h .0 i j l k .0; count-most = λ i j l k. h .0 i j l k .1; no-count = h .1 })
@@ -64,7 +64,7 @@ counts-decide d long t =
     x : Choice
     x = countsIn d
 
-pub held-decides : (d : Dispatcher) → Long d → Decides (heldTest (heldIn d)) (HeldIn (heldIn d))
+pub held-decides : (d : Dispatcher) → Long d → Decides (heldTest (heldIn d)) (HeldInRange (heldIn d))
 unfolding heldTest
 held-decides d long =
     restated
@@ -74,16 +74,16 @@ held-decides d long =
 
 -- ---- at the start, and without a task
 
-pub held-for : (S : Tasks) (x : Choice) → InTable S → CountsIn S x → HeldIn (heldFor S x)
+pub held-for : (S : Tasks) (x : Choice) → InTable S → CountsInRange S x → HeldInRange (heldFor S x)
 held-for S x table counts = record { table = table; counts = counts }
 
 -- two in range without a task are one
-pub none-held : (h h′ : Held) → HeldIn h → HeldIn h′ → h .table .n ≡ 0 → h′ .table .n ≡ 0 → h ≡ h′
+pub none-held : (h h′ : Held) → HeldInRange h → HeldInRange h′ → h .table .n ≡ 0 → h′ .table .n ≡ 0 → h ≡ h′
 none-held h h′ r r′ e e′ = λ k.
     record {
       table = none-alike (h .table) (h′ .table) (r .table) (r′ .table) e e′ k;
       counts = λ i j. (no-count h r e i j ∙ sym (no-count h′ r′ e′ i j)) k;
     }
   where
-    no-count : (h : Held) → HeldIn h → h .table .n ≡ 0 → (i j : ℕ) → h .counts i j ≡ 0
+    no-count : (h : Held) → HeldInRange h → h .table .n ≡ 0 → (i j : ℕ) → h .counts i j ≡ 0
     no-count h r e i j = r .counts .no-count i j (omega (arith, r .table .no-task i (omega arith) .no-phases))

@@ -19,7 +19,7 @@ use Rattle.promise.specs.laws.Range.{Range}
 use Rattle.promise.specs.laws.Remaining.{Proper, RunsAt}
 use Rattle.records.specs.Ranges.{changingTest, inRange}
 use Rattle.records.specs.Record.{stateIn}
-use Rattle.records.specs.Held.{HeldIn, countsIn, heldIn, tasksIn}
+use Rattle.records.specs.Held.{HeldInRange, countsIn, heldIn, tasksIn}
 use Rattle.records.specs.declared.Dispatcher.{Dispatcher}
 use Rattle.records.specs.laws.Fields.{Fields, Long}
 use Rattle.records.specs.laws.Held.{held-decides}
@@ -87,7 +87,7 @@ module _ (d : Dispatcher) where
       (both (both (both (both (eqb-decides (s .since i) 0) (eqb-decides (getD (d .unfinished) i 0) 0)) (eqb-decides (s .left i) 0)) (eqb-decides (s .phase i) 0)) (eqb-decides (s .piece i) 0))
 
   -- ---- the fields, from the tests
-  module _ (long : Long d) (held : HeldIn (heldIn d)) (now : Below 32 ChangingP) (run : RunAt) where
+  module _ (long : Long d) (held : HeldInRange (heldIn d)) (now : Below 32 ChangingP) (run : RunAt) where
     absent : (i : ℕ) → S .n ≤ i → AbsentP i
     absent i h = go (decLt i 32)
       where

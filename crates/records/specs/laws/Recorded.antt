@@ -8,13 +8,13 @@ use Rattle.promise.specs.laws.Range.{Range}
 use Rattle.promise.specs.laws.Remaining.{Proper}
 use Rattle.records.specs.Ranges.{inRange, usable}
 use Rattle.records.specs.Record.{emptyRecord, recordOf, stateIn}
-use Rattle.records.specs.Held.{Held, HeldIn, heldIn}
+use Rattle.records.specs.Held.{Held, HeldInRange, heldIn}
 use Rattle.records.specs.declared.Dispatcher.{Dispatcher}
 use Rattle.records.specs.laws.Held.{record-long}
 use Rattle.records.specs.laws.InRange.{fields-range}
 use Rattle.records.specs.laws.Views.{flags-binary, held-of-record, state-of-record}
 
-module _ (h : Held) (held : HeldIn h) (s : State) (range : Range (h .table) s) where
+module _ (h : Held) (held : HeldInRange h) (s : State) (range : Range (h .table) s) where
   abbrev d : Dispatcher
   d = recordOf h s
 
@@ -30,7 +30,7 @@ module _ (h : Held) (held : HeldIn h) (s : State) (range : Range (h .table) s) w
   record-in-range good =
       fields-range d (record-long h s)
       (record {
-        held = of-views (λ h s. HeldIn h) held;
+        held = of-views (λ h s. HeldInRange h) held;
         state = of-views (λ h s. Range (h .table) s) range;
         jobs = of-views (λ h s. Proper (h .table) (h .counts) s) good;
         binary = flags-binary (s .busy);

@@ -20,7 +20,7 @@ use Rattle.model.specs.laws.Ranges.{few-of}
 use Rattle.promise.specs.Rules.{State, stated}
 use Rattle.promise.specs.laws.Range.{Range}
 use Rattle.records.specs.Record.{recordOf, stateIn}
-use Rattle.records.specs.Held.{Held, HeldIn, countsIn, heldIn, recordWith, tasksIn}
+use Rattle.records.specs.Held.{Held, HeldInRange, countsIn, heldIn, recordWith, tasksIn}
 use Rattle.records.specs.declared.Dispatcher.{Dispatcher}
 use Rattle.records.specs.laws.Fields.{Long}
 use Rattle.records.specs.laws.Held.{fixed-of-held, held-of-fixed}
@@ -64,7 +64,7 @@ flags-binary f i = go (decLt i 32)
     go (yes l) = omega (arith, getD-list 32 (λ i. digit (f i)) i 0 l, small (f i))
     go (no l) = omega (arith, List·getD-eq-default (listTo 32 (λ i. digit (f i))) 0 {n = i} (omega (arith, length-list 32 (λ i. digit (f i)))))
 
-module _ (h : Held) (range : HeldIn h) where
+module _ (h : Held) (range : HeldInRange h) where
   abbrev S : Tasks
   S = h .table
 
@@ -93,7 +93,7 @@ module _ (h : Held) (range : HeldIn h) where
 abbrev pub dueTicks : Dispatcher → ℕ → ℕ
 dueTicks d t = ticksOf (d .phase) (d .piece) (d .work) (d .cost) (d .counts) t
 
--- they are what the rules state; nothing is asked of the kind of phase
+-- they are what the rules state, where the phase is one of the eight
 pub due-of-views : (d : Dispatcher) (j : ℕ) → getD (d .phase) j 0 - 1 < 8
     → dueTicks d (suc j) ≡ stated (tasksIn d) (countsIn d) j (getD (d .phase) j 0) (getD (d .piece) j 0)
 unfolding stated

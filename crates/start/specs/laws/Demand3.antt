@@ -7,7 +7,7 @@ use Prim.Native.Nat.{ℕ, _≤_, _<_}
 use native.Mathlib.Omega.{arith}
 use borrow.Author.Tests.{le-ltb, lt-ltb}
 use lib.Dec.{ltb}
-use Rattle.records.specs.Held.{CountsIn}
+use Rattle.records.specs.Held.{CountsInRange}
 use Rattle.records.specs.Start.{Startable}
 use Rattle.records.specs.laws.Held.{held-for}
 use Rattle.dispatch.specs.declared.Answer.{Answer}
@@ -55,7 +55,7 @@ module _ (t : Table) (valid : Valid t) (x : Choice) (p : ℕ) (a : Accepted (tas
   most-used : (i j : ℕ) → i < S .n → j < S .m i → used S x i j ≤ phasesOf S .most i j
   most-used = least-within S (phasesOf S) (laws-of S sane) (Works S (phasesOf S)) (by-works S (phasesOf S) (laws-of S sane)) (used S x) least-used
 
-  counts-in : CountsIn S (used S x)
+  counts-in : CountsInRange S (used S x)
   counts-in = record { count-least = least-used .valid; count-most = most-used; no-count = used-none S x }
 
   pub may-start : Startable S (used S x)

@@ -16,7 +16,7 @@ use Rattle.finite.specs.laws.Tests.{cond-false}
 use Rattle.model.specs.Arrays.{Arrays}
 use Rattle.model.specs.Ranges.{tasksMost}
 use Rattle.pieces.specs.Bounds.{budgetMost}
-use Rattle.pieces.specs.Held.{held}
+use Rattle.pieces.specs.Bare.{bareTasks}
 use Rattle.pieces.specs.Task.{Roomy}
 use Rattle.pieces.specs.laws.Sums.{sum-most}
 use Rattle.pieces.specs.laws.Task.{budget-most}
@@ -119,7 +119,7 @@ module _ {a : Arrays} {t low : ℕ} {due : ℕ → Bool} {budgets margins : List
   budget-bounded : (i : ℕ) → i < tasksMost → due i ≡ true → budgetAt a t low i (getD budgets i 0) ≤ budgetMost
   budget-bounded i l d =
       cond-cases (λ v. v ≤ budgetMost) (getD (a .deadline) i 0) t _ _
-      (λ e. budget-most (held (a .phases) (a .work) (a .cost)) i low (r .roomy i l d e))
+      (λ e. budget-most (bareTasks (a .phases) (a .work) (a .cost)) i low (r .roomy i l d e))
       (λ ne. r .bounded i l d)
 
   -- so does the sum over some of the tasks that are due
@@ -189,7 +189,7 @@ module _ {a : Arrays} {t low mask : ℕ} {budgets margins : List ℕ} {rest : �
     due = k .within first (f .marked)
 
     -- what is asked of it
-    pub adding-room : (first < tasksMost) × (getD (a .deadline) first 0 ≡ t → Roomy (held (a .phases) (a .work) (a .cost)) low first)
+    pub adding-room : (first < tasksMost) × (getD (a .deadline) first 0 ≡ t → Roomy (bareTasks (a .phases) (a .work) (a .cost)) low first)
     adding-room = (f .place, k .ready .roomy first (f .place) due)
 
     module _ {budgets″ margins″ : List ℕ} {b : ℕ} (e : Settles t (getD (a .deadline) first 0) (leastBudget a low first) low first budgets′ margins′ budgets″ margins″ b) where

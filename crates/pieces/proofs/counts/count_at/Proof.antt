@@ -6,7 +6,7 @@ use lib.ListN.{getD}
 use mathlib.Core.Path.{sym}
 use native.Mathlib.Omega.{arith}
 use Rattle.model.specs.Tasks.{Tasks}
-use Rattle.pieces.specs.Held.{held}
+use Rattle.pieces.specs.Bare.{bareTasks}
 use Rattle.pieces.specs.laws.Counts.{count-fits, count-least, count-no-phase, count-no-task}
 use Rattle.pieces.proofs.counts.count_at.Statement.{statement}
 use Rattle.pieces.proofs.counts.count_at.Tie as tie
@@ -16,7 +16,7 @@ abbrev entry : tie.After-size → tie.Start
 entry c = c .before .before .before
 
 abbrev tasks : tie.Start → Tasks
-tasks s = held (s .args .phases .now) (s .args .work .now) (s .args .cost .now)
+tasks s = bareTasks (s .args .phases .now) (s .args .work .now) (s .args .cost .now)
 
 abbrev margins : tie.Start → ℕ → ℕ
 margins s i = getD (s .args .cuts .now) i 0

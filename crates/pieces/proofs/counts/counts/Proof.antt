@@ -7,13 +7,13 @@ use mathlib.Core.Path.{_≡_, refl, _∙_}
 use native.Mathlib.Omega.{arith}
 use Rattle.finite.specs.laws.Lists.{filled, filled-end, filled-more, filled-none}
 use Rattle.pieces.specs.Counts.{countAt}
-use Rattle.pieces.specs.Held.{held}
+use Rattle.pieces.specs.Bare.{bareTasks}
 use Rattle.pieces.proofs.counts.counts.Statement.{statement}
 use Rattle.pieces.proofs.counts.counts.Tie as tie
 
 abbrev Inv-loop : tie.InvT-loop
 Inv-loop tasks phases work cost cuts all₀ place₀ all place =
-    (place ≤ 256) × (length all₀ ≡ 256) × (all ≡ filled place (countAt tasks (held phases work cost) (λ i. getD cuts i 0)) all₀)
+    (place ≤ 256) × (length all₀ ≡ 256) × (all ≡ filled place (countAt tasks (bareTasks phases work cost) (λ i. getD cuts i 0)) all₀)
 
 abbrev μ-loop : tie.MeasureT-loop
 μ-loop tasks phases work cost cuts all₀ place₀ all place = 256 - place

@@ -8,12 +8,12 @@ use native.Mathlib.Omega.{arith}
 use Rattle.finite.specs.laws.Lists.{filled, filled-end, filled-more, filled-none}
 use Rattle.model.specs.Arrays.{phaseAt}
 use Rattle.pieces.specs.Counts.{longestAt}
-use Rattle.pieces.specs.Held.{held}
+use Rattle.pieces.specs.Bare.{bareTasks}
 use Rattle.pieces.proofs.counts.longests.Statement.{statement}
 use Rattle.pieces.proofs.counts.longests.Tie as tie
 
 abbrev Inv-loop : tie.InvT-loop
-Inv-loop tasks phases work cost counts all₀ i₀ all i = (i ≤ 32) × (length all₀ ≡ 32) × (all ≡ filled i (longestAt tasks (held phases work cost) (phaseAt counts)) all₀)
+Inv-loop tasks phases work cost counts all₀ i₀ all i = (i ≤ 32) × (length all₀ ≡ 32) × (all ≡ filled i (longestAt tasks (bareTasks phases work cost) (phaseAt counts)) all₀)
 
 abbrev μ-loop : tie.MeasureT-loop
 μ-loop tasks phases work cost counts all₀ i₀ all i = 32 - i

@@ -3,13 +3,13 @@
 use Prim.Native.Nat.{_-_}
 use borrow.Author.Needs.{needs}
 use native.Mathlib.Omega.{arith}
-use Rattle.pieces.specs.Held.{held}
+use Rattle.pieces.specs.Bare.{bareTasks}
 use Rattle.pieces.specs.laws.Loops.{Adding, adding-all, adding-fits, adding-more, adding-none}
 use Rattle.pieces.proofs.task.budget_under.Statement.{statement}
 use Rattle.pieces.proofs.task.budget_under.Tie as tie
 
 abbrev Inv-loop : tie.InvT-loop
-Inv-loop i margin phases work cost many sum₀ j₀ sum j = Adding (held phases work cost) margin i many j sum
+Inv-loop i margin phases work cost many sum₀ j₀ sum j = Adding (bareTasks phases work cost) margin i many j sum
 
 abbrev μ-loop : tie.MeasureT-loop
 μ-loop i margin phases work cost many sum₀ j₀ sum j = many - j

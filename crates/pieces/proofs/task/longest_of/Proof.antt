@@ -4,13 +4,13 @@ use Prim.Native.Nat.{_-_}
 use borrow.Author.Needs.{needs}
 use native.Mathlib.Omega.{arith}
 use Rattle.model.specs.Arrays.{phaseAt}
-use Rattle.pieces.specs.Held.{held}
+use Rattle.pieces.specs.Bare.{bareTasks}
 use Rattle.pieces.specs.laws.Loops.{Rising, rising-all, rising-more, rising-none, rising-some}
 use Rattle.pieces.proofs.task.longest_of.Statement.{statement}
 use Rattle.pieces.proofs.task.longest_of.Tie as tie
 
 abbrev Inv-loop : tie.InvT-loop
-Inv-loop i phases work cost counts many top₀ j₀ top j = Rising (held phases work cost) (phaseAt counts) i many j top
+Inv-loop i phases work cost counts many top₀ j₀ top j = Rising (bareTasks phases work cost) (phaseAt counts) i many j top
 
 abbrev μ-loop : tie.MeasureT-loop
 μ-loop i phases work cost counts many top₀ j₀ top j = many - j

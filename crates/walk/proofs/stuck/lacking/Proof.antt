@@ -6,7 +6,7 @@ use lib.ListN.{getD}
 use mathlib.Core.Bool.{false}
 use mathlib.Core.Path.{_≡_, sym, _∙_}
 use native.Mathlib.Omega.{arith}
-use Rattle.pieces.specs.Held.{phasesIn}
+use Rattle.pieces.specs.Bare.{phasesIn}
 use Rattle.walk.specs.laws.Stuck.{Searching, not-both, searching-all, searching-found, searching-more, searching-none}
 use Rattle.walk.proofs.stuck.lacking.Statement.{statement}
 use Rattle.walk.proofs.stuck.lacking.Tie as tie

@@ -8,12 +8,12 @@ use Rattle.model.specs.Phase.{Choice, Phases, phasesOf}
 use Rattle.model.specs.Tasks.{Tasks}
 
 -- numbers of phases, works, switching costs
-abbrev pub held : (phases work cost : List ℕ) → Tasks
-held phases work cost = asTasks (phasesAlone phases work cost)
+abbrev pub bareTasks : (phases work cost : List ℕ) → Tasks
+bareTasks phases work cost = asTasks (phasesAlone phases work cost)
 
 -- the phases in the arrays of 256
 abbrev pub phasesIn : (work cost : List ℕ) → Phases
-phasesIn work cost = phasesOf (held [] work cost)
+phasesIn work cost = phasesOf (bareTasks [] work cost)
 
 -- the choice that gives each phase its least count for a margin
 abbrev pub needs : Phases → (margin : ℕ) → Choice
