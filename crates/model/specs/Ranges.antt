@@ -101,6 +101,7 @@ pub record InTable (S : Tasks) : Type 0 where
 abbrev pub within : ℕ → ℕ → ℕ → Bool
 within least most v = leb least v && leb v most
 
+-- T, D and the number of phases of task i; 0 where there is no such task
 abbrev pub taskTest : Tasks → ℕ → Bool
 taskTest S i =
     if ltb i (S .n)

@@ -41,6 +41,7 @@ fn task_at<'a>(
     choose(i < tasks as usize, there, absent)
 }
 
+// The numbers of every task.
 fn tasks_in<'a>(
     tasks: u32,
     spacing: &'a [u32; 32],
@@ -107,7 +108,7 @@ fn count_at<'a>(
 }
 
 // The table and the counts. One loop tests every number of a phase: to find out which places are used costs most of it. A work is at least 1 where its
-// count is in its range, and is not tested for that.
+// count is in its range, and is not tested for that (with that test, and the count's like the others, a tick has 15 % more instructions).
 pub fn held_in<'a>(
     tasks: u32,
     spacing: &'a [u32; 32],
@@ -167,6 +168,7 @@ fn job_at<'a>(
     (flag <= 1) & choose(flag == 1, there, absent)
 }
 
+// The jobs of all tasks.
 fn jobs_in<'a>(
     deadline: &'a [u32; 32],
     phases: &'a [u32; 32],
@@ -218,6 +220,7 @@ fn pieces_in<'a>(counts: &'a [u32; 256], phase: &'a [u32; 32], piece: &'a [u32; 
     ok
 }
 
+// What a tick changes, of all tasks.
 pub fn changing_in<'a>(
     spacing: &'a [u32; 32],
     deadline: &'a [u32; 32],
@@ -239,6 +242,7 @@ pub fn changing_in<'a>(
 
 // ---- the running piece
 
+// The running task and the ticks left of its piece, by what the piece has; 0 and 0 where none runs.
 fn run_in(run: u32, tasks: u32, unfinished: bool, ticks: u64, most: u64) -> bool
     ensures { λ r. ⌜ r ≡ runIn run tasks unfinished ticks most ⌝ }
 {
