@@ -7,8 +7,8 @@ use Rattle.table.proofs.limited.Tie as tie
 limit-requires : tie.Need-limit-requires
 limit-requires c κs = search needs
 
-enum-known-h : tie.Need-enum-known-h
-enum-known-h c = search needs
+enum-known-horizon : tie.Need-enum-known-horizon
+enum-known-horizon c = search needs
 
 enum-known-reason : tie.Need-enum-known-reason
 enum-known-reason c = search needs
@@ -17,11 +17,11 @@ empty-requires : tie.Need-empty-requires
 empty-requires c κs = search needs
 
 returns : tie.Need-returns
-returns c = let k = c .before in limited-read (k .before .before .limit .ensures) _ (k .h .given .1)
+returns c = let k = c .before in limited-read (k .before .before .limit .ensures) _ (k .horizon .given .1)
 
 returns-2 : tie.Need-returns-2
 returns-2 c = let k = c .before .before in limited-away (k .before .before .limit .ensures) _ (k .reason .given .1) (c .empty .ensures)
 
 pub limited-spec : {M : Type 1} → statement M
 limited-spec =
-    tie.close (tie.spec limit-requires enum-known-h enum-known-reason empty-requires returns returns-2)
+    tie.close (tie.spec limit-requires enum-known-horizon enum-known-reason empty-requires returns returns-2)
