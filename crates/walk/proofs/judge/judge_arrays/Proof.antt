@@ -15,7 +15,7 @@ arrays c = arraysAs (c .args .n) (c .args .spacing .now) (c .args .deadline .now
 abbrev entry : tie.Then1 → tie.Start
 entry c = c .before .before
 
-ended : (c : tie.Then1) → EndAccepted (arrays (entry c)) (entry c .args .h) (c .before .walk .result)
+ended : (c : tie.Then1) → EndAccepted (arrays (entry c)) (entry c .args .horizon) (c .before .walk .result)
 ended c = is-accepted (c .before .walk .ensures) (c .if1 .taken)
 
 walk-requires : tie.Need-walk-requires
