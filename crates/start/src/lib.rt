@@ -16,6 +16,7 @@ pub enum How {
     TurnedAway(u8, usize),
 }
 
+// How the dispatcher was started, and its record: the record to start with, or the empty one where the table is refused or turned away.
 pub struct Started {
     pub how: How,
     pub dispatcher: Dispatcher,
@@ -45,16 +46,16 @@ fn begun(read: Table, judged: Judged) -> Started
 pub fn start(table: &[u8]) -> Started
     ensures { λ r. ⌜ Starts (now (table .entry)) r ⌝ }
 {
-    let read = table::read(table);
-    let o = read.outcome;
-    match o {
+    let reading = table::read(table);
+    let outcome = reading.outcome;
+    match outcome {
         table::ReadOutcome::TurnedAway(reason, place) => Started {
             how: How::TurnedAway(reason, place),
             dispatcher: Dispatcher::empty(),
         },
-        table::ReadOutcome::Read(h) => {
-            let t = read.table;
-            begun(t, walk::judge::judge(t, h))
+        table::ReadOutcome::Read(horizon) => {
+            let read = reading.table;
+            begun(read, walk::judge::judge(read, horizon))
         }
     }
 }
