@@ -24,25 +24,25 @@ pub struct Demand {
     pub sum: u64,
 }
 
-// How often d goes into n: 0 where d is 0.
-fn whole_times(n: u64, d: u64) -> u64
-    ensures { λ r. ⌜ r ≡ n / d ⌝ }
+// How often the divisor goes into the number: 0 where the divisor is 0.
+fn whole_times(number: u64, divisor: u64) -> u64
+    ensures { λ r. ⌜ r ≡ number / divisor ⌝ }
 {
-    if d == 0 {
+    if divisor == 0 {
         return 0;
     }
-    n / d
+    number / divisor
 }
 
-// The sum with b added once and then `more` times.
-fn add_times(sum: u64, more: u64, b: u64) -> Demand
-    ensures { λ r. ⌜ r ≡ told (sum + (more + 1) * b) ⌝ }
+// The sum with the budget added once and then `more` times.
+fn add_times(sum: u64, more: u64, budget: u64) -> Demand
+    ensures { λ r. ⌜ r ≡ told (sum + (more + 1) * budget) ⌝ }
 {
-    if b == 0 {
+    if budget == 0 {
         return Demand { fits: true, sum };
     }
     let room = 18446744073709551615 - sum;
-    if room / b <= more {
+    if room / budget <= more {
         return Demand {
             fits: false,
             sum: 0,
@@ -50,21 +50,25 @@ fn add_times(sum: u64, more: u64, b: u64) -> Demand
     }
     Demand {
         fits: true,
-        sum: sum + (more + 1) * b,
+        sum: sum + (more + 1) * budget,
     }
 }
 
 // The demand of the tasks so far, with one task's added. A demand that no longer fits stays so.
-fn with_task(total: Demand, s: TaskLoad, t: u64) -> Demand
-    ensures { λ r. ⌜ r ≡ plus total (termOf t s) ⌝ }
+fn with_task(total: Demand, task: TaskLoad, t: u64) -> Demand
+    ensures { λ r. ⌜ r ≡ plus total (termOf t task) ⌝ }
 {
     if !total.fits {
         return total;
     }
-    if t < s.deadline {
+    if t < task.deadline {
         return total;
     }
-    add_times(total.sum, whole_times(t - s.deadline, s.spacing), s.budget)
+    add_times(
+        total.sum,
+        whole_times(t - task.deadline, task.spacing),
+        task.budget,
+    )
 }
 
 // The demand at t of all tasks of the slice.
@@ -91,9 +95,9 @@ pub fn demand_of(tasks: [TaskLoad; 32], t: u64) -> Demand
 pub fn tick(dispatcher: &mut Dispatcher, mask: u32, flag: bool) -> Answer
     ensures { λ r. ⌜ Ticks (now (dispatcher .entry)) mask flag (now (dispatcher .exit)) r ⌝ }
 {
-    let t = dispatch::tick(*dispatcher, mask, flag);
-    *dispatcher = t.next;
-    t.answer
+    let moved = dispatch::tick(*dispatcher, mask, flag);
+    *dispatcher = moved.next;
+    moved.answer
 }
 
 // The same of a record by value: whoever calls it makes no reference to a struct.

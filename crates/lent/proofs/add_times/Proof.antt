@@ -45,11 +45,11 @@ returns-2 : tie.Need-returns-2
 returns-2 c = sym (told-past _ (over _ _ _ (omega arith) (omega arith) (omega arith)))
 
 module _ (c : lts.Else2 reads.Pre reads.Post) where
-  small : c .before .before .args .sum + (c .before .before .args .more + 1) * c .before .before .args .b < 2 ^ 64
-  small = fit (c .before .before .args .sum) (c .before .before .args .more) (c .before .before .args .b) (omega arith) (omega arith) (omega arith)
+  small : c .before .before .args .sum + (c .before .before .args .more + 1) * c .before .before .args .budget < 2 ^ 64
+  small = fit (c .before .before .args .sum) (c .before .before .args .more) (c .before .before .args .budget) (omega arith) (omega arith) (omega arith)
 
 add-t6 : tie.Need-add-t6
-add-t6 c = omega (arith, div-le-self (max - c .before .before .args .sum) (c .before .before .args .b))
+add-t6 c = omega (arith, div-le-self (max - c .before .before .args .sum) (c .before .before .args .budget))
 
 mul-t7 : tie.Need-mul-t7
 mul-t7 c = omega (arith, small c)

@@ -8,7 +8,7 @@ use Rattle.lent.proofs.whole_times.Statement.{statement}
 use Rattle.lent.proofs.whole_times.Tie as tie
 
 returns : tie.Need-returns
-returns c = let e : c .before .args .d ≡ 0 = omega arith in sym (ap (λ (k : ℕ). c .before .args .n / k) e ∙ div-zero (c .before .args .n))
+returns c = let e : c .before .args .divisor ≡ 0 = omega arith in sym (ap (λ (k : ℕ). c .before .args .number / k) e ∙ div-zero (c .before .args .number))
 
 div-result : tie.Need-div-result
 div-result c = search needs
