@@ -6,7 +6,7 @@ ghost use Rattle.arrays.specs.Rules.{enters_of, urgent_of, place_of, ticks_of, d
 use crate::numbers::{at32, at256, down, either, from_one};
 
 // The piece of a task (from 1; 0 for none) that runs or is next due: its phase and number, and how many of each there are.
-#[derive(Drop)]
+#[derive(Clone, Copy)]
 pub struct Due {
     pub task: u32,
     pub phase: u32,

@@ -6,7 +6,7 @@ use libc::{STDIN_FILENO, STDOUT_FILENO};
 
 // A case of `length` bytes at the front of the buffer. `left` is 0 where there is none; it counts down from case to case, since a proved loop has to
 // end and nothing says that the input does. `cut` where the input ended within a case, or the buffer had no room for one.
-#[derive(Drop)]
+#[derive(Clone, Copy)]
 pub struct Case {
     pub left: u64,
     pub length: usize,
@@ -14,7 +14,7 @@ pub struct Case {
 }
 
 // What stands before a case.
-#[derive(Drop)]
+#[derive(Clone, Copy)]
 struct Announced {
     bytes: usize,
     length: usize,

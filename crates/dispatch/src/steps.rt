@@ -10,14 +10,14 @@ use arrays::rules::{Due, due_piece, due_ticks, let_in, urgent};
 use records::Dispatcher;
 
 // What step 1 gives: the record after it, and the mask of the bits let in.
-#[derive(Drop)]
+#[derive(Clone, Copy)]
 pub struct Admitted {
     pub next: Dispatcher,
     pub let_in: u32,
 }
 
 // The task that ran (from 1; 0 for none), its phase and piece; whether the piece ended, whether the job finished.
-#[derive(Drop)]
+#[derive(Clone, Copy)]
 pub struct Ran {
     pub task: u32,
     pub phase: u32,
@@ -27,7 +27,7 @@ pub struct Ran {
 }
 
 // What step 3 gives: the record after it, and what ran.
-#[derive(Drop)]
+#[derive(Clone, Copy)]
 pub struct Worked {
     pub next: Dispatcher,
     pub ran: Ran,

@@ -1,4 +1,6 @@
 // The C interface: each export is thin, and repeats the promise of the call that it wraps. include/clinkerbell.h declares it for C.
+#![tactic(auto)]
+
 ghost use Rattle.std.specs.Prelude.{◌≡◌};
 ghost use Rattle.dispatch.specs.Tick.{Ticks};
 ghost use Rattle.firmware.specs.Interface.{JudgesInC, judge_outcome_of, StartsInC, start_outcome_of, unrefused};
@@ -8,7 +10,7 @@ use records::Dispatcher;
 
 // What `clinkerbell_judge` returns: reason 0 and the answer's length, or the reason and the place.
 #[repr(C)]
-#[derive(Drop)]
+#[derive(Clone, Copy)]
 pub struct Outcome {
     pub reason: u32,
     pub place: u64,
@@ -44,7 +46,7 @@ pub extern "C" fn clinkerbell_judge(table: &[u8], answer: &mut [u8]) -> Outcome
 // What `clinkerbell_start` returns: 0 ready, with the record before its first tick; 1 refused, with the witness, the demand there, the points
 // examined, and the blocked task and phase; 2 turned away, with the reason and the place.
 #[repr(C)]
-#[derive(Drop)]
+#[derive(Clone, Copy)]
 pub struct StartOutcome {
     pub how: u32,
     pub reason: u32,

@@ -1,5 +1,7 @@
 // The thin calls over references: the demand at t of a lent slice of task structs, and a lent record moved forward by a tick.
 // Each takes a struct out of the reference, passes it by value, and puts back what it is given.
+#![tactic(auto)]
+
 ghost use Rattle.std.specs.Prelude.{◌≡◌, ◌+◌, ◌*◌, ◌/◌};
 ghost use Rattle.dispatch.specs.Tick.{Ticks};
 ghost use Rattle.lent.specs.Lent.{Sums};
@@ -10,7 +12,7 @@ use records::Dispatcher;
 
 // A task as demand sees it: least spacing T, relative deadline D, and its budget under some choice of counts.
 #[repr(C)]
-#[derive(Drop)]
+#[derive(Clone, Copy)]
 pub struct TaskLoad {
     pub spacing: u64,
     pub deadline: u64,
@@ -19,7 +21,7 @@ pub struct TaskLoad {
 
 // A demand that fits 64 bits, or the word that it does not, with 0 for the sum.
 #[repr(C)]
-#[derive(Drop)]
+#[derive(Clone, Copy)]
 pub struct Demand {
     pub fits: bool,
     pub sum: u64,

@@ -1,4 +1,6 @@
 // The dispatcher's record, held by value: the empty one, the one to start with, and the test of its range.
+#![tactic(auto)]
+
 mod ranges;
 
 ghost use Rattle.std.specs.Prelude.{◌≡◌, ◌≤◌};
@@ -16,7 +18,7 @@ use table::Table;
 // the ticks since the last admitted release, whether a job is unfinished (1, else 0), its time left, its phase and piece; the running task and the
 // ticks left of its piece.
 #[repr(C)]
-#[derive(Drop)]
+#[derive(Clone, Copy)]
 pub struct Dispatcher {
     pub tasks: u32,
     pub spacing: [u32; 32],

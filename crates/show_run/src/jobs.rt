@@ -2,7 +2,7 @@
 ghost use Rattle.std.specs.Prelude.{◌≡◌, ◌+◌, ◌%◌, ◌^◌};
 
 // Of each task the jobs let in and finished, the tick of the last release and the worst response.
-#[derive(Drop)]
+#[derive(Clone, Copy)]
 pub struct Tally {
     pub admitted: [u64; 32],
     pub finished: [u64; 32],

@@ -23,7 +23,7 @@ const REQUEST_MOST: u64 = 8_589_934_591;
 
 // The dispatcher's record, the number of the next tick and its place in the input; `going` until the input is turned away, and `ready` where the
 // dispatcher was started.
-#[derive(Drop)]
+#[derive(Clone, Copy)]
 pub struct Run {
     pub ready: bool,
     pub going: bool,

@@ -1,4 +1,6 @@
 // Starting the dispatcher on the bytes of a table.
+#![tactic(auto)]
+
 ghost use Rattle.table.specs.TaskModel.{tasks_of};
 ghost use Rattle.table.specs.Valid.{Valid};
 ghost use Rattle.walk.specs.Judge.{WalkJudges};
@@ -10,7 +12,7 @@ use walk::judge::Judged;
 
 // The dispatcher is ready; or the table is refused, with the witness, the demand there, the points examined, and the blocked task and phase; or it
 // is turned away, with the reason and the place.
-#[derive(Drop)]
+#[derive(Clone, Copy)]
 pub enum How {
     Ready,
     Refused(u64, u64, u64, u32, u32),
@@ -18,7 +20,7 @@ pub enum How {
 }
 
 // How the dispatcher was started, and its record: the record to start with, or the empty one where the table is refused or turned away.
-#[derive(Drop)]
+#[derive(Clone, Copy)]
 pub struct Started {
     pub how: How,
     pub dispatcher: Dispatcher,

@@ -8,21 +8,21 @@ use crate::Table;
 use groups::Number;
 
 // Where reading stands: reason 0 and the place behind what was read, or the reason for turning the table away and its place.
-#[derive(Drop)]
+#[derive(Clone, Copy)]
 pub struct Step {
     pub reason: u8,
     pub place: usize,
 }
 
 // The step behind a number within its range, and the number; 0 where the table is turned away.
-#[derive(Drop)]
+#[derive(Clone, Copy)]
 pub struct NumberRead {
     pub step: Step,
     pub value: u64,
 }
 
 // The step behind the numbers of a task, where its phases follow, and the numbers.
-#[derive(Drop)]
+#[derive(Clone, Copy)]
 pub struct HeadRead {
     pub step: Step,
     pub spacing: u32,
@@ -31,7 +31,7 @@ pub struct HeadRead {
 }
 
 // The step behind the tasks, and their number.
-#[derive(Drop)]
+#[derive(Clone, Copy)]
 pub struct TasksRead {
     pub step: Step,
     pub count: usize,
@@ -39,7 +39,7 @@ pub struct TasksRead {
 
 // What is found where a number is due: the number and the place behind it, or the reason and the place for turning the table away. (An enum, and not
 // a step with a number or 0: so the compiler branches where a number is out of range, and does not wait for each test to know the next place.)
-#[derive(Drop)]
+#[derive(Clone, Copy)]
 enum Found {
     Value(u64, usize),
     Away(u8, usize),

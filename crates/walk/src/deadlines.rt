@@ -44,7 +44,7 @@ pub fn front(n: usize, next: &[u64; 32]) -> u64
 }
 
 // Who was due at a test point, and the next test point: the least of the next deadlines after it.
-#[derive(Drop)]
+#[derive(Clone, Copy)]
 pub struct Moved {
     pub due: u32,
     pub soonest: u64,

@@ -52,7 +52,7 @@ fn stuck_phase<'a>(
 }
 
 // Whether the walk stops, and the blocked task and phase, numbered from 1, or 0 and 0.
-#[derive(Drop)]
+#[derive(Clone, Copy)]
 pub struct Stop {
     pub stops: bool,
     pub task: usize,

@@ -1,6 +1,8 @@
 // Writes a task table in bytes.
 // A pass over a table's numbers puts their bytes one behind the other where `put` says so, and otherwise only counts them: so the length that is
 // tested and what is written come of one and the same pass.
+#![tactic(auto)]
+
 ghost use Rattle.std.specs.Prelude.{false, [], ◌∷◌, ◌≡◌, ◌+◌, ◌*◌, ◌≤◌, ◌<◌, ltb, length, get_or};
 ghost use Rattle.model.specs.Ranges.{phases_most, tasks_most};
 ghost use Rattle.finite.specs.Finite.{any_to, join_to};
@@ -10,7 +12,7 @@ ghost use Rattle.writer.specs.Written.{phase_items, task_items, table_items, ove
 use table::Table;
 
 // What writing a table answers: the number of its bytes, or why nothing was written.
-#[derive(Drop)]
+#[derive(Clone, Copy)]
 pub enum TableWritten {
     Wrote(usize),
     NoRoom,
