@@ -1,0 +1,20 @@
+use mathlib.Core.Path.{◌≡◌}
+use Prim.Native.Nat.{◌-◌}
+use native.Mathlib.Omega.{arith}
+use Rattle.finite.specs.laws.Masks.{mask_of_lt, mask_of_more, mask_of_none}
+use borrow.Author.Rules.{rules}
+use Rattle.arrays.proofs.rules.let_in.Goals as goal
+
+pub loop-i-init : goal.loop-i-init
+loop-i-init c = (search rules, mask_of_none _)
+
+pub with_bit-entered-requires : goal.with_bit-entered-requires
+with_bit-entered-requires c = (search rules, rw c.loop-i.invariant.1 (mask_of_lt _ _))
+
+pub loop-i-preserved : goal.loop-i-preserved
+loop-i-preserved c = (search rules, mask_of_more _ _ _ _ c.loop-i.invariant.1 c.with_bit-entered.ensures)
+
+pub returns : goal.returns
+returns c = let l = c.loop-i in
+    let e : l.i ≡ 32 = omega arith in
+    rw (l.invariant.1, e)
