@@ -1,0 +1,19 @@
+use Prim.Native.Nat.{◌+◌, ◌-◌}
+use borrow.Author.Rules.{rules}
+use Rattle.groups.proofs.Passes.{begins, part_fits, part_passed, all_passed, same_long}
+use Rattle.writer.proofs.phases.Goals as goal
+
+pub loop-j-init : goal.loop-j-init
+loop-j-init c = search (rules, begins)
+
+pub two-next-requires : goal.two-next-requires
+two-next-requires c = search (rules, part_fits)
+
+pub loop-j-preserved : goal.loop-j-preserved
+loop-j-preserved c = search (rules, part_passed)
+
+pub shape_of-out : goal.shape_of-out
+shape_of-out c = search (rules, same_long)
+
+pub returns : goal.returns
+returns c = search (rules, all_passed)
