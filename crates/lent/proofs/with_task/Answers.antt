@@ -3,13 +3,11 @@ use mathlib.Core.Path.{◌≡◌, sym, ap, ◌∙◌}
 use mathlib.Core.Bool.{Bool, true}
 use Prim.Native.Nat.{ℕ, ◌+◌, ◌*◌, ◌-◌, ◌/◌, ◌<◌, ◌≤◌, ◌^◌}
 use native.Mathlib.Omega.{arith}
-use borrow.Author.Rules.{rules}
 use borrow.Author.Tests.{not-true, not-false}
 use Rattle.lent.specs.declared.TaskLoad.{TaskLoad}
 use Rattle.lent.specs.declared.Demand.{Demand}
 use Rattle.lent.specs.laws.Running.{told, told_within, plus, plus_fits, plus_past, term_of, term_none, term_some}
-use Rattle.lent.proofs.with_task.Statement.{statement}
-use Rattle.lent.proofs.with_task.Tie as tie
+use Rattle.lent.proofs.with_task.Goals as goal
 
 -- a task that demands nothing changes nothing
 unchanged : (d : Demand) (t : ℕ) (s : TaskLoad) → d.fits ≡ true → d.sum < 2 ^ 64 → t < s.deadline → d ≡ plus d (term_of t s)
@@ -23,20 +21,11 @@ added : (d r : Demand) (more t : ℕ) (s : TaskLoad) → d.fits ≡ true → r �
 added d r more t s f e m h =
     e ∙ ap (λ (k : ℕ). told (d.sum + k)) (ap (λ (k : ℕ). (k + 1) * s.budget) m ∙ sym (term_some t s h)) ∙ sym (plus_fits d (term_of t s) f)
 
-returns : tie.Need-returns
-returns c = sym (plus_past _ _ (not-true _ c.if1.true))
+pub returns-then-not-total : goal.returns-then-not-total
+returns-then-not-total c = sym (plus_past _ _ (not-true _ c.if-not-total.true))
 
-returns-2 : tie.Need-returns-2
-returns-2 c = unchanged _ _ _ (not-false _ c.before.before.if1.false) c.before.before.before.struct_known.given.1.0.fits (omega arith)
+pub returns-then-t-task : goal.returns-then-t-task
+returns-then-t-task c = unchanged _ _ _ (not-false _ c.if-not-total.false) c.struct_known-1.given.1.0.fits (omega arith)
 
-whole-times-requires : tie.Need-whole-times-requires
-whole-times-requires c κs = search rules
-
-add-times-requires : tie.Need-add-times-requires
-add-times-requires c κs = search rules
-
-returns-3 : tie.Need-returns-3
-returns-3 c = added _ _ _ _ _ (not-false _ c.before.before.before.before.before.if1.false) c.add_times.ensures c.before.whole-times.ensures (omega arith)
-
-pub with-task-spec : {M : Type 1} → statement M
-with-task-spec = tie.close (tie.spec returns returns-2 whole-times-requires add-times-requires returns-3)
+pub returns : goal.returns
+returns c = added _ _ _ _ _ (not-false _ c.if-not-total.false) c.add_times.ensures c.whole_times.ensures (omega arith)

@@ -4,13 +4,9 @@ use mathlib.Core.Bool.{true}
 use Prim.Native.Nat.{ℕ, ◌+◌, ◌*◌, ◌-◌, ◌/◌, ◌<◌, ◌≤◌, ◌^◌}
 use native.Mathlib.Nat.{div-le_self, div-lt_iff_lt-mul, le-div_iff_mul-le}
 use native.Mathlib.Omega.{arith}
-use borrow.Author.Rules.{rules}
 use Rattle.lent.specs.declared.Demand.{Demand}
 use Rattle.lent.specs.laws.Running.{told, told_within, told_past}
-use Rattle.lent.proofs.add_times.Statement.{statement}
-use Rattle.lent.proofs.add_times.Tie as tie
-use Rattle.lent.proofs.add_times.Reads as reads
-use Rattle.lent.proofs.add_times.Lts as lts
+use Rattle.lent.proofs.add_times.Goals as goal
 
 -- what the test says
 overflows : (room m b : ℕ) → 0 < b → room / b ≤ m → room < (m + 1) * b
@@ -32,33 +28,26 @@ over sum m b pos le h = let r : max - sum < (m + 1) * b = overflows (max - sum) 
 no_more : (sum m b : ℕ) → b ≡ 0 → sum < 2 ^ 64 → ◌≡◌ {A = Demand} (record { fits = true; sum = sum }) (told (sum + (m + 1) * b))
 no_more sum m b e h = let z : sum + (m + 1) * b ≡ sum = rw e (omega arith) in sym (ap told z ∙ told_within sum h)
 
-returns : tie.Need-returns
-returns c = no_more _ _ _ (omega arith) (omega arith)
+pub returns-then-budget-eq0 : goal.returns-then-budget-eq0
+returns-then-budget-eq0 c = no_more _ _ _ (omega arith) (omega arith)
 
-sub-room : tie.Need-overflow-sub-room
-sub-room c = search rules
+pub returns-then-room-budget : goal.returns-then-room-budget
+returns-then-room-budget c = sym (told_past _ (over _ _ _ (omega arith) (omega arith) (omega arith)))
 
-div-if2 : tie.Need-nonzero-div-if2
-div-if2 c = search rules
+pub overflow_add-result : goal.overflow_add-result
+overflow_add-result c = omega (arith, div-le_self (max - c.args.sum) c.args.budget)
 
-returns-2 : tie.Need-returns-2
-returns-2 c = sym (told_past _ (over _ _ _ (omega arith) (omega arith) (omega arith)))
+pub overflow_mul-result : goal.overflow_mul-result
+overflow_mul-result c =
+    let small : c.args.sum + (c.args.more + 1) * c.args.budget < 2 ^ 64 = fit c.args.sum c.args.more c.args.budget (omega arith) (omega arith) (omega arith) in
+    omega (arith, small)
 
-module _ (c : lts.Else2 reads.Pre reads.Post) where
-  small : c.before.before.args.sum + (c.before.before.args.more + 1) * c.before.before.args.budget < 2 ^ 64
-  small = fit c.before.before.args.sum c.before.before.args.more c.before.before.args.budget (omega arith) (omega arith) (omega arith)
+pub overflow_add-result-2 : goal.overflow_add-result-2
+overflow_add-result-2 c =
+    let small : c.args.sum + (c.args.more + 1) * c.args.budget < 2 ^ 64 = fit c.args.sum c.args.more c.args.budget (omega arith) (omega arith) (omega arith) in
+    omega (arith, small)
 
-add-t6 : tie.Need-overflow-add-t6
-add-t6 c = omega (arith, div-le_self (max - c.before.before.args.sum) c.before.before.args.budget)
-
-mul-t7 : tie.Need-overflow-mul-t7
-mul-t7 c = omega (arith, small c)
-
-add-t8 : tie.Need-overflow-add-t8
-add-t8 c = omega (arith, small c)
-
-returns-3 : tie.Need-returns-3
-returns-3 c = sym (told_within _ (small c))
-
-pub add-times-spec : {M : Type 1} → statement M
-add-times-spec = tie.close (tie.spec returns sub-room div-if2 returns-2 add-t6 mul-t7 add-t8 returns-3)
+pub returns : goal.returns
+returns c =
+    let small : c.args.sum + (c.args.more + 1) * c.args.budget < 2 ^ 64 = fit c.args.sum c.args.more c.args.budget (omega arith) (omega arith) (omega arith) in
+    sym (told_within _ small)
