@@ -9,7 +9,7 @@ use lib.ListN.{length, drop}
 use lib.Seq.{sets, length-sets, sets-eq}
 use Rattle.finite.specs.Finite.{join_to, list_to}
 use Rattle.finite.specs.If.{if◌then◌else◌}
-use Rattle.finite.specs.laws.Lists.{join_more, join_part, list_join}
+use Rattle.finite.proofs.laws.Lists.{join_more, join_part, list_join}
 use Rattle.groups.specs.Encode.{encode, encode_all}
 use Rattle.groups.specs.Pass.{RoomFor, Passed}
 use Rattle.groups.proofs.Numbers.{encode_all_append, encode_all_one, append}

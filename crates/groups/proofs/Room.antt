@@ -9,7 +9,7 @@ use lib.Dec.{leb}
 use lib.ListN.{length}
 use lib.Seq.{sets, sets-eq}
 use borrow.Author.Tests.{le-leb, lt-leb, leb-true, leb-false, lt-ltb, le-ltb}
-use Rattle.finite.specs.laws.Tests.{le_or_lt}
+use Rattle.finite.proofs.laws.Tests.{le_or_lt}
 use Rattle.groups.specs.declared.NumberWritten.TheVariants.{To, TooLarge, NoRoom}
 use Rattle.groups.specs.Encode.{encode}
 use Rattle.groups.specs.Write.{written_of, WritesNumber}

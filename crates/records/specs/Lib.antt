@@ -4,4 +4,3 @@ pub mod Ranges
 pub mod Taken
 pub mod Start
 pub mod Lent
-pub mod laws

@@ -11,10 +11,10 @@ use lib.ListN.{get_or}
 use lib.Dec.{eqb, ltb}
 use borrow.Author.Tests.{eq-eqb, ne_eqb, lt-ltb, le-ltb}
 use Rattle.finite.specs.Finite.{Below, sum_to}
-use Rattle.finite.specs.laws.Tests.{cond_true, cond_false, eqb_decides, failed, le_or_lt}
+use Rattle.finite.proofs.laws.Tests.{cond_true, cond_false, eqb_decides, failed, le_or_lt}
 use Rattle.model.specs.Ranges.{tasks_most}
 use Rattle.model.specs.TestPoints.{gcd, gcd_in, lcm, lcm_to}
-use Rattle.model.specs.laws.Lcm.{Multiple, gcd_ok, lcm_ok, lcm_to_ok}
+use Rattle.model.proofs.laws.Lcm.{Multiple, gcd_ok, lcm_ok, lcm_to_ok}
 use Rattle.table.specs.Horizon.{zero_above, Spacings}
 
 -- ---- the greatest common divisor

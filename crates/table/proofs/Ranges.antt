@@ -11,7 +11,7 @@ use Rattle.finite.specs.Finite.{sum_to}
 use Rattle.finite.specs.If.{if◌then◌else◌}
 use Rattle.model.specs.Ranges.{horizon_most, jobs_most}
 use Rattle.model.specs.TestPoints.{lcm_to, horizon_of}
-use Rattle.model.specs.laws.Lcm.{lcm_to_ok}
+use Rattle.model.proofs.laws.Lcm.{lcm_to_ok}
 use Rattle.table.specs.declared.Table.{Table}
 use Rattle.table.specs.declared.ReadOutcome.{ReadOutcome}
 use Rattle.table.specs.declared.ReadOutcome.TheVariants.{Read, TurnedAway}

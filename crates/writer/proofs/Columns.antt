@@ -7,7 +7,7 @@ use native.Mathlib.Omega.{arith}
 use native.Mathlib.Decide.{ℕ_discrete}
 use lib.ListN.{length, get_or, set, replicate, length-set, length-replicate, get_or-replicate, get_or-eq_default}
 use lib.Seq.{get_or-set_same, get_or-set_other, ext_get_or}
-use Rattle.finite.specs.laws.Tests.{le_or_lt}
+use Rattle.finite.proofs.laws.Tests.{le_or_lt}
 
 -- xs has the length of ys, and below k what ys has
 pub record Filled (k : ℕ) (xs ys : List ℕ) : Type 0 where

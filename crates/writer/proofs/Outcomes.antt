@@ -10,8 +10,8 @@ use lib.Dec.{ltb}
 use lib.ListN.{length, get_or, drop}
 use Rattle.model.specs.Ranges.{phases_most, tasks_most}
 use Rattle.finite.specs.Finite.{any_to}
-use Rattle.finite.specs.laws.Tests.{failed, le_or_lt, ltb_decides}
-use Rattle.finite.specs.laws.Searches.{any_decides}
+use Rattle.finite.proofs.laws.Tests.{failed, le_or_lt, ltb_decides}
+use Rattle.finite.proofs.laws.Searches.{any_decides}
 use Rattle.groups.specs.Pass.{RoomFor, Passed}
 use Rattle.groups.proofs.Numbers.{eight_each, join_count}
 use Rattle.groups.proofs.Passes.{in_front_lem}

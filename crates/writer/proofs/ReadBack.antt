@@ -9,8 +9,8 @@ use lib.Dec.{ltb}
 use lib.ListN.{length, get_or, take, drop}
 use lib.Seq.{take_at}
 use Rattle.model.specs.Ranges.{phases_most, tasks_most}
-use Rattle.finite.specs.laws.Tests.{fails, ltb_decides}
-use Rattle.finite.specs.laws.Searches.{any_decides}
+use Rattle.finite.proofs.laws.Tests.{fails, ltb_decides}
+use Rattle.finite.proofs.laws.Searches.{any_decides}
 use Rattle.finite.specs.If.{if◌then◌else◌}
 use Rattle.table.specs.declared.Table.{Table}
 use Rattle.table.specs.Parse.{got, table}

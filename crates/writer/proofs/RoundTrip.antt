@@ -9,12 +9,12 @@ use lib.ListN.{length, get_or, drop, length-drop}
 use lib.Seq.{drop-drop, drop-append_seam, drop-length}
 use Rattle.model.specs.Ranges.{cost_most, horizon_most, jobs_most, phases_most, spacing_most, tasks_most, work_most}
 use Rattle.finite.specs.Finite.{join_to}
-use Rattle.finite.specs.laws.Lists.{join_alike, join_from}
+use Rattle.finite.proofs.laws.Lists.{join_alike, join_from}
 use Rattle.groups.specs.Encode.{encode, encode_all}
 use Rattle.groups.proofs.Numbers.{none, cons, append, encode_all_append}
 use Rattle.groups.proofs.RoundTrip.{round_trip}
 use Rattle.model.specs.Arrays.{empty_arrays}
-use Rattle.model.specs.laws.Arrays.{phase_at_lem}
+use Rattle.model.proofs.laws.Arrays.{phase_at_lem}
 use Rattle.model.specs.TestPoints.{horizon_of}
 use Rattle.table.specs.declared.Table.{Table}
 use Rattle.table.specs.Parse.{Result, got, number_in, numbers_in, each, phase, task, numbers, table, nothing_behind, empty, with_count, with_task, with_phase}

@@ -8,7 +8,7 @@ use Rattle.groups.specs.Encode.{encode_all}
 use Rattle.groups.proofs.Numbers.{cons, join_short, none}
 use Rattle.groups.proofs.Writing.{short}
 use Rattle.model.specs.Ranges.{cost_most, work_most}
-use Rattle.model.specs.laws.Arrays.{phase_at_lem}
+use Rattle.model.proofs.laws.Arrays.{phase_at_lem}
 use Rattle.table.specs.declared.Table.{Table}
 use Rattle.table.specs.Valid.{Valid}
 use Rattle.writer.specs.Written.{phase_items, task_items, table_bytes}

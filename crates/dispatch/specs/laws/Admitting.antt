@@ -6,14 +6,14 @@ use Rattle.std.proofs.Common.{sym, ◌∙◌}
 use Rattle.std.proofs.Math.Bool.{true, false}
 use Rattle.finite.specs.Masks.{bit, digit, mask_of}
 use Rattle.arrays.specs.Rules as array
-use Rattle.finite.specs.laws.Masks.{bit_mask_of}
-use Rattle.finite.specs.laws.Lists.{filled_more}
-use Rattle.finite.specs.laws.Tests.{cond_false, cond_true}
+use Rattle.finite.proofs.laws.Masks.{bit_mask_of}
+use Rattle.finite.proofs.laws.Lists.{filled_more}
+use Rattle.finite.proofs.laws.Tests.{cond_false, cond_true}
 use Rattle.promise.specs.Rules.{State, admit, lets_in}
 use Rattle.records.specs.Record.{state_in}
 use Rattle.records.specs.Held.{counts_in, tasks_in}
 use Rattle.records.specs.declared.Dispatcher.{Dispatcher}
-use Rattle.records.specs.laws.Fields.{Fields, Long}
+use Rattle.records.proofs.laws.Fields.{Fields, Long}
 use Rattle.dispatch.specs.Steps.{Admits, in_state}
 use Rattle.dispatch.specs.laws.Keeps.{admit_keeps}
 use Rattle.dispatch.specs.laws.Reads.{own_keeps, ranged, still_in_range}

@@ -2,12 +2,12 @@
 -- Assumes nothing.
 use Rattle.std.specs.Prelude.{◌≡◌, refl, ℕ, ◌+◌, ◌-◌, ◌<◌, min, get_or, set}
 use Rattle.std.proofs.Common.{ap, ◌∙◌}
-use Rattle.finite.specs.laws.Lists.{filled_more}
+use Rattle.finite.proofs.laws.Lists.{filled_more}
 use Rattle.promise.specs.Rules.{State, elapse}
 use Rattle.records.specs.Record.{state_in}
 use Rattle.records.specs.Held.{tasks_in}
 use Rattle.records.specs.declared.Dispatcher.{Dispatcher}
-use Rattle.records.specs.laws.Fields.{Fields, Long}
+use Rattle.records.proofs.laws.Fields.{Fields, Long}
 use Rattle.dispatch.specs.Steps.{Elapses}
 use Rattle.dispatch.specs.laws.Updates.{filled_kept, filled_own, filling, filling_all, in_state_lem, jobs_alike, own_flag, with_jobs}
 

@@ -5,17 +5,17 @@ use Rattle.std.proofs.Common.{sym, ap, ◌∙◌, arith}
 use Rattle.std.proofs.Math.Bool.{and-eq-true_iff}
 use Rattle.std.specs.Int.Count.{ones}
 use Rattle.finite.specs.Masks.{bit, count_of, mask_of}
-use Rattle.finite.specs.laws.Masks.{asked_split, mask_of_alike, ones_mask_of}
+use Rattle.finite.proofs.laws.Masks.{asked_split, mask_of_alike, ones_mask_of}
 use Rattle.model.specs.Phase.{Choice}
 use Rattle.model.specs.Tasks.{Tasks}
 use Rattle.promise.specs.Rules.{Answer, State, admit, answer_by, elapse, lets_in, pick, work_at}
-use Rattle.promise.specs.laws.Answers.{answer_lets}
+use Rattle.promise.proofs.laws.Answers.{answer_lets}
 use Rattle.records.specs.Ranges.{in_range, usable}
 use Rattle.records.specs.Record.{record_of, request_of, state_in}
 use Rattle.records.specs.Held.{counts_in, held_in, tasks_in}
 use Rattle.records.specs.declared.Dispatcher.{Dispatcher}
-use Rattle.records.specs.laws.Fields.{Fields, Long}
-use Rattle.records.specs.laws.InRange.{range_fields}
+use Rattle.records.proofs.laws.Fields.{Fields, Long}
+use Rattle.records.proofs.laws.InRange.{range_fields}
 use Rattle.dispatch.specs.Steps.{Admits, Elapses, Picks, WorksOn, ran_of}
 use Rattle.dispatch.specs.Tick.{Ticks, answer_for, record_after, rules_answer}
 use Rattle.dispatch.specs.declared.Answer as code

@@ -4,11 +4,11 @@ use Rattle.std.specs.Prelude.{refl, Bool, ℕ, ◌<◌}
 use Rattle.model.specs.Phase.{Choice}
 use Rattle.model.specs.Tasks.{Tasks}
 use Rattle.promise.specs.Rules.{State, admit, pick, work_at}
-use Rattle.promise.specs.laws.Entering.{admit_proper}
-use Rattle.promise.specs.laws.Range.{Range, admit_range, pick_range, work_range}
-use Rattle.promise.specs.laws.Remaining.{Proper, Ranged}
-use Rattle.promise.specs.laws.Starting.{picks}
-use Rattle.promise.specs.laws.Working.{works_at}
+use Rattle.promise.proofs.laws.Entering.{admit_proper}
+use Rattle.promise.proofs.laws.Range.{Range, admit_range, pick_range, work_range}
+use Rattle.promise.proofs.laws.Remaining.{Proper, Ranged}
+use Rattle.promise.proofs.laws.Starting.{picks}
+use Rattle.promise.proofs.laws.Working.{works_at}
 
 -- a state that the rules keep
 pub record Keeps (S : Tasks) (x : Choice) (s : State) : Type 0 where

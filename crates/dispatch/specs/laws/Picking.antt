@@ -8,15 +8,15 @@ use Rattle.arrays.specs.Rules.{goes_before, urgent_of}
 use Rattle.model.specs.Phase.{Choice}
 use Rattle.model.specs.Tasks.{Tasks}
 use Rattle.promise.specs.Rules.{State, ahead, best, pick, pick_at, start, stated}
-use Rattle.promise.specs.laws.Remaining.{At}
-use Rattle.promise.specs.laws.Urgent.{Best, best_is}
+use Rattle.promise.proofs.laws.Remaining.{At}
+use Rattle.promise.proofs.laws.Urgent.{Best, best_is}
 use Rattle.records.specs.Ranges.{in_range}
 use Rattle.records.specs.Record.{state_in}
 use Rattle.records.specs.Held.{counts_in, tasks_in}
 use Rattle.records.specs.declared.Dispatcher.{Dispatcher}
-use Rattle.records.specs.laws.Fields.{Fields, Long}
-use Rattle.records.specs.laws.InRange.{range_fields}
-use Rattle.records.specs.laws.Views.{due_of_views, due_ticks}
+use Rattle.records.proofs.laws.Fields.{Fields, Long}
+use Rattle.records.proofs.laws.InRange.{range_fields}
+use Rattle.records.proofs.laws.Views.{due_of_views, due_ticks}
 use Rattle.dispatch.specs.Steps.{Picks, in_state}
 use Rattle.dispatch.specs.laws.Keeps.{pick_keeps}
 use Rattle.dispatch.specs.laws.Reads.{few, few_phases, own_keeps, ranged, still_in_range}

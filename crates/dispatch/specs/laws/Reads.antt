@@ -5,14 +5,14 @@ use Rattle.std.proofs.Common.{ap, ◌∙◌}
 use Rattle.finite.specs.Finite.{Below}
 use Rattle.model.specs.Ranges.{phases_most, tasks_most}
 use Rattle.promise.specs.Rules.{State}
-use Rattle.promise.specs.laws.Kept.{ranged_of}
-use Rattle.promise.specs.laws.Remaining.{Ranged}
+use Rattle.promise.proofs.laws.Kept.{ranged_of}
+use Rattle.promise.proofs.laws.Remaining.{Ranged}
 use Rattle.records.specs.Ranges.{in_range}
 use Rattle.records.specs.Record.{state_in}
 use Rattle.records.specs.Held.{Held, HeldInRange, counts_in, held_in, tasks_in}
 use Rattle.records.specs.declared.Dispatcher.{Dispatcher}
-use Rattle.records.specs.laws.Fields.{Fields}
-use Rattle.records.specs.laws.Recorded.{read_as, record_in_range}
+use Rattle.records.proofs.laws.Fields.{Fields}
+use Rattle.records.proofs.laws.Recorded.{read_as, record_in_range}
 use Rattle.dispatch.specs.Steps.{in_state}
 use Rattle.dispatch.specs.laws.Keeps.{Keeps}
 

@@ -7,7 +7,7 @@ use Prim.Native.Nat.{ℕ, zero, suc, ◌%◌, ◌^◌, ◌≤◌, ◌<◌}
 use Rattle.std.proofs.Math.Decide.{dec_lt}
 use Rattle.std.proofs.Math.Nat.{div-eq_of_lt, pow-le-pow_right}
 use Rattle.finite.specs.Masks.{bit, mask_of}
-use Rattle.finite.specs.laws.Masks.{bit_mask_of, mask_of_lt}
+use Rattle.finite.proofs.laws.Masks.{bit_mask_of, mask_of_lt}
 use Rattle.records.specs.Ranges.{usable}
 use Rattle.records.specs.Record.{record_of, request_of}
 use Rattle.records.specs.Held.{Held, HeldInRange, held_for}
@@ -16,17 +16,17 @@ use Rattle.dispatch.specs.Tick.{Ticks, answer_for, answer_in, record_after, rule
 use Rattle.dispatch.specs.declared.Answer as code
 use Rattle.records.specs.declared.Dispatcher.{Dispatcher}
 use Rattle.dispatch.specs.laws.Reads.{table_ranged}
-use Rattle.records.specs.laws.Recorded.{read_as, usable_is}
+use Rattle.records.proofs.laws.Recorded.{read_as, usable_is}
 use Rattle.model.specs.Phase.{Choice}
 use Rattle.model.specs.Tasks.{Sane, Tasks}
 use Rattle.promise.specs.History.{answer_at, record_at}
 use Rattle.promise.specs.Promise.{Kept}
 use Rattle.promise.specs.Rules.{Answer, Request, State, admit, answer_of, lets_in, pick, tick}
-use Rattle.promise.specs.laws.Answers.{answer_lets}
-use Rattle.promise.specs.laws.Kept.{kept}
-use Rattle.promise.specs.laws.Range.{Range, initial_range, tick_range}
-use Rattle.promise.specs.laws.Remaining.{Proper}
-use Rattle.promise.specs.laws.Ticking.{proper}
+use Rattle.promise.proofs.laws.Answers.{answer_lets}
+use Rattle.promise.proofs.laws.Kept.{kept}
+use Rattle.promise.proofs.laws.Range.{Range, initial_range, tick_range}
+use Rattle.promise.proofs.laws.Remaining.{Proper}
+use Rattle.promise.proofs.laws.Ticking.{proper}
 
 -- ---- a table's record in a state that the rules keep
 module _ (h : Held) (held : HeldInRange h) (s : State) (range : Range h.table s) (good : Proper h.table h.counts s) where

@@ -5,12 +5,12 @@ use Rattle.std.proofs.Common.{sym, ap, ◌∙◌, add-one, arith}
 use Rattle.std.proofs.lemmas.List.{set-get_or}
 use Rattle.finite.specs.Masks.{digit}
 use Rattle.finite.specs.Finite.{list_to}
-use Rattle.finite.specs.laws.Lists.{filled, filled_all, filled_rest, get_or_list}
+use Rattle.finite.proofs.laws.Lists.{filled, filled_all, filled_rest, get_or_list}
 use Rattle.records.specs.Record.{state_in}
 use Rattle.records.specs.Held.{fixed_in, record_with}
 use Rattle.records.specs.declared.Dispatcher.{Dispatcher}
-use Rattle.records.specs.laws.Fields.{Fields, Long}
-use Rattle.records.specs.laws.Views.{record_of_views}
+use Rattle.records.proofs.laws.Fields.{Fields, Long}
+use Rattle.records.proofs.laws.Views.{record_of_views}
 use Rattle.dispatch.specs.Steps.{in_state}
 use Rattle.promise.specs.Rules.{State}
 

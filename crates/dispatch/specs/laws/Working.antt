@@ -12,19 +12,19 @@ use Rattle.finite.specs.Masks.{digit}
 use Rattle.arrays.specs.Rules.{due_of}
 use Rattle.arrays.specs.declared.rules.Due.{Due}
 use Rattle.finite.specs.Finite.{list_to}
-use Rattle.finite.specs.laws.Lists.{get_or_list, length_list}
-use Rattle.finite.specs.laws.Tests.{and_both, cond_false, cond_true}
+use Rattle.finite.proofs.laws.Lists.{get_or_list, length_list}
+use Rattle.finite.proofs.laws.Tests.{and_both, cond_false, cond_true}
 use Rattle.model.specs.Phase.{Choice}
 use Rattle.model.specs.Tasks.{Tasks}
-use Rattle.model.specs.laws.Arrays.{phase_at_lem}
+use Rattle.model.proofs.laws.Arrays.{phase_at_lem}
 use Rattle.promise.specs.Rules.{PieceOutcome, State, after, answer_by, done, ends_of, finishes_of, next_phase, next_piece, on, outcome, put, work_at}
-use Rattle.promise.specs.laws.Remaining.{At, RunsAt, put_other, put_same}
+use Rattle.promise.proofs.laws.Remaining.{At, RunsAt, put_other, put_same}
 use Rattle.records.specs.Ranges.{in_range}
 use Rattle.records.specs.Record.{state_in}
 use Rattle.records.specs.Held.{counts_in, tasks_in}
 use Rattle.records.specs.declared.Dispatcher.{Dispatcher}
-use Rattle.records.specs.laws.Fields.{Fields, Long}
-use Rattle.records.specs.laws.InRange.{range_fields}
+use Rattle.records.proofs.laws.Fields.{Fields, Long}
+use Rattle.records.proofs.laws.InRange.{range_fields}
 use Rattle.dispatch.specs.Steps.{WorksOn, in_state, ran_of}
 use Rattle.dispatch.specs.declared.steps.Ran.{Ran}
 use Rattle.dispatch.specs.laws.Keeps.{work_keeps}

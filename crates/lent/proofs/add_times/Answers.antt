@@ -5,7 +5,8 @@ use Prim.Native.Nat.{ℕ, ◌+◌, ◌*◌, ◌-◌, ◌/◌, ◌<◌, ◌≤◌
 use native.Mathlib.Nat.{div-le_self, div-lt_iff_lt-mul, le-div_iff_mul-le}
 use native.Mathlib.Omega.{arith}
 use Rattle.lent.specs.declared.Demand.{Demand}
-use Rattle.lent.specs.laws.Running.{told, told_within, told_past}
+use Rattle.lent.specs.laws.Running.{told}
+use Rattle.lent.proofs.laws.Running.{told_within, told_past}
 use Rattle.lent.proofs.add_times.Goals as goal
 
 -- what the test says

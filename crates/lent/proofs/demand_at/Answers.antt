@@ -2,7 +2,8 @@ use Rattle.std.proofs.Common.{◌≡◌, length, ap, sym, ◌∙◌, subst, arit
 use native.Mathlib.Nat.{le_antisymm}
 use Rattle.lent.specs.Lent.{Sums, task_at}
 use Rattle.lent.specs.declared.Demand.{Demand}
-use Rattle.lent.specs.laws.Running.{told, plus, term_of, up_to, up_none, up_next, up_sums}
+use Rattle.lent.specs.laws.Running.{told, plus, term_of, up_to}
+use Rattle.lent.proofs.laws.Running.{up_none, up_next, up_sums}
 use Rattle.lent.proofs.demand_at.Goals as goal
 
 pub loop-i-init : goal.loop-i-init

@@ -6,7 +6,8 @@ use native.Mathlib.Omega.{arith}
 use borrow.Author.Tests.{not-true, not-false}
 use Rattle.lent.specs.declared.TaskLoad.{TaskLoad}
 use Rattle.lent.specs.declared.Demand.{Demand}
-use Rattle.lent.specs.laws.Running.{told, told_within, plus, plus_fits, plus_past, term_of, term_none, term_some}
+use Rattle.lent.specs.laws.Running.{told, plus, term_of}
+use Rattle.lent.proofs.laws.Running.{told_within, plus_fits, plus_past, term_none, term_some}
 use Rattle.lent.proofs.with_task.Goals as goal
 
 -- a task that demands nothing changes nothing

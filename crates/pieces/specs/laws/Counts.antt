@@ -6,14 +6,14 @@ use Rattle.std.proofs.Math.Logic.{⊎_elim}
 use Rattle.std.proofs.Math.ListN.{get_or-eq_default}
 use borrow.Author.Tests.{lt-ltb, le-ltb}
 use Rattle.finite.specs.Finite.{Below, list_to}
-use Rattle.finite.specs.laws.Lists.{get_or_list, length_list}
-use Rattle.finite.specs.laws.Tests.{le_or_lt}
+use Rattle.finite.proofs.laws.Lists.{get_or_list, length_list}
+use Rattle.finite.proofs.laws.Tests.{le_or_lt}
 use Rattle.model.specs.Arrays.{phase_at}
 use Rattle.model.specs.Ranges.{horizon_most, work_most}
 use Rattle.model.specs.Phase.{Choice, phases_of}
 use Rattle.model.specs.Tasks.{Tasks}
 use Rattle.model.specs.Works.{longest}
-use Rattle.model.specs.laws.Arrays.{phase_at_lem}
+use Rattle.model.proofs.laws.Arrays.{phase_at_lem}
 use Rattle.pieces.specs.Bounds.{piece_most}
 use Rattle.pieces.specs.Counts.{count_at, longest_at}
 use Rattle.pieces.specs.Task.{InPieces, Roomy}

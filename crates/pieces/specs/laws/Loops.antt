@@ -7,7 +7,7 @@ use Rattle.finite.specs.Finite.{max_to, sum_to}
 use Rattle.model.specs.Phase.{Choice, brings, phases_of}
 use Rattle.model.specs.Tasks.{Tasks}
 use Rattle.model.specs.Works.{longest}
-use Rattle.model.specs.laws.Plain.{pieces_of}
+use Rattle.model.proofs.laws.Plain.{pieces_of}
 use Rattle.pieces.specs.Bounds.{phase_most, piece_most}
 use Rattle.pieces.specs.Bare.{needs}
 use Rattle.pieces.specs.Task.{InPieces, PhaseFits, Roomy}

@@ -5,13 +5,13 @@ use Rattle.std.proofs.Math.Path.{refl}
 use Rattle.std.proofs.Common.{◌∙◌, le_antisymm, le_trans, mul-le-mul, mul-le-mul_right, arith, lt-ltb, ltb-true}
 use Rattle.finite.specs.Finite.{Below}
 use Rattle.finite.specs.If.{if◌then◌else◌}
-use Rattle.finite.specs.laws.Extremes.{max_least}
+use Rattle.finite.proofs.laws.Extremes.{max_least}
 use Rattle.model.specs.Arrays.{Arrays, as_tasks}
 use Rattle.model.specs.Phase.{Choice, brings, budget, ceil_div, has_room, longest_piece, needed, phases_of, piece_length}
 use Rattle.model.specs.Ranges.{PhaseIn, cost_most, horizon_most, phases_most, work_most}
 use Rattle.model.specs.Tasks.{Tasks}
 use Rattle.model.specs.Works.{longest}
-use Rattle.model.specs.laws.Plain.{ceil_least, ceil_most, ceil_pos, pieces_of}
+use Rattle.model.proofs.laws.Plain.{ceil_least, ceil_most, ceil_pos, pieces_of}
 use Rattle.pieces.specs.Bounds.{budget_most, phase_most, piece_most}
 use Rattle.pieces.specs.Bare.{bare_tasks, needs}
 use Rattle.pieces.specs.Task.{InPieces, PhaseFits, Roomy, WorkIn}

@@ -1,6 +1,6 @@
 -- `ready` meets its contract. Assumes nothing.
 use mathlib.Core.Path.{refl}
-use Rattle.records.specs.laws.Ready.{ready_is}
+use Rattle.records.proofs.laws.Ready.{ready_is}
 use borrow.Author.Rules.{rules}
 use Rattle.records.proofs.ready.Goals as goal
 

@@ -2,9 +2,9 @@
 use mathlib.Core.Path.{◌≡◌}
 use mathlib.Core.Bool.{◌&&◌}
 use Rattle.records.specs.Ranges.{in_range}
-use Rattle.records.specs.laws.Fields.{Long}
-use Rattle.records.specs.laws.Taken.{taken_in, taken_out}
-use Rattle.records.specs.laws.Tested.{tested_by}
+use Rattle.records.proofs.laws.Fields.{Long}
+use Rattle.records.proofs.laws.Taken.{taken_in, taken_out}
+use Rattle.records.proofs.laws.Tested.{tested_by}
 use borrow.Author.Rules.{rules}
 use Rattle.std.proofs.lemmas.Bool.{not_from_false, not_from_true}
 use Rattle.records.proofs.taken.Goals as goal

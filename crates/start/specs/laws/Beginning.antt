@@ -10,8 +10,8 @@ use Rattle.model.specs.Tasks.{Each, Sane, Tasks}
 use Rattle.model.specs.TestPoints.{horizon_of}
 use Rattle.model.specs.Verdict as verdict
 use Rattle.model.specs.Verdict.{Same, Verdict, accepted, refused}
-use Rattle.model.specs.laws.Plain.{laws_of}
-use Rattle.model.specs.laws.Unique.{judged_unique}
+use Rattle.model.proofs.laws.Plain.{laws_of}
+use Rattle.model.proofs.laws.Unique.{judged_unique}
 use Rattle.start.specs.Start.{Begins, StartedOn, Starts, used}
 use Rattle.start.specs.declared.How.{How}
 use Rattle.start.specs.declared.How.TheVariants.{Ready, Refused, TurnedAway}

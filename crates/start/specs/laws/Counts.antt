@@ -2,10 +2,10 @@
 -- Assumes nothing.
 use Rattle.std.specs.Prelude.{◌≡◌, refl, Bool, true, false, ◌&&◌, List, ◌⊎◌, ℕ, ◌+◌, ◌*◌, ◌/◌, ◌%◌, ◌≤◌, ◌<◌, ltb, get_or}
 use Rattle.std.proofs.Common.{sym, ap, ap₂, ◌∙◌, true≢false, inl, inr, ⊎_elim, arith, lt-ltb}
-use Rattle.finite.specs.laws.Tests.{cond_false, cond_true, le_or_lt}
+use Rattle.finite.proofs.laws.Tests.{cond_false, cond_true, le_or_lt}
 use Rattle.model.specs.Arrays.{phase_at}
 use Rattle.model.specs.Tasks.{Tasks}
-use Rattle.model.specs.laws.Arrays.{phase_at_lem, phase_none}
+use Rattle.model.proofs.laws.Arrays.{phase_at_lem, phase_none}
 use Rattle.start.specs.Start.{used}
 
 module _ (S : Tasks) (xs : List ℕ) (no_task : (p : ℕ) → S.n ≤ p / 8 → get_or xs p 0 ≡ 0) (no_phase : (p : ℕ) → S.m (p / 8) ≤ p % 8 → get_or xs p 0 ≡ 0) where

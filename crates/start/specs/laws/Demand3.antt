@@ -4,7 +4,7 @@ use Rattle.std.specs.Prelude.{◌≡◌, refl, Bool, true, false, cond, ◌&&◌
 use Rattle.std.proofs.Common.{sym, ◌∙◌, arith, le-ltb, lt-ltb}
 use Rattle.records.specs.Held.{CountsInRange}
 use Rattle.records.specs.Start.{Startable}
-use Rattle.records.specs.laws.Held.{held_for_lem}
+use Rattle.records.proofs.laws.Held.{held_for_lem}
 use Rattle.dispatch.specs.declared.Answer.{Answer}
 use Rattle.dispatch.specs.laws.RecordKept.{record_kept}
 use Rattle.model.specs.Phase.{Choice, phases_of}
@@ -12,8 +12,8 @@ use Rattle.model.specs.Tasks.{Sane, Tasks}
 use Rattle.model.specs.TestPoints.{horizon_of}
 use Rattle.model.specs.Verdict.{Accepted, Judged, Verdict, accepted, refused}
 use Rattle.model.specs.Works.{Least, Works}
-use Rattle.model.specs.laws.Choices.{by_works, least_same, least_within}
-use Rattle.model.specs.laws.Plain.{laws_of}
+use Rattle.model.proofs.laws.Choices.{by_works, least_same, least_within}
+use Rattle.model.proofs.laws.Plain.{laws_of}
 use Rattle.start.specs.Run.{Promised, Run}
 use Rattle.start.specs.Start.{StartedOn, used}
 use Rattle.table.proofs.Valid.{read_valid}

@@ -1,7 +1,7 @@
 use mathlib.Core.Path.{◌≡◌}
 use Prim.Native.Nat.{◌-◌}
 use native.Mathlib.Omega.{arith}
-use Rattle.finite.specs.laws.Masks.{mask_of_lt, mask_of_more, mask_of_none}
+use Rattle.finite.proofs.laws.Masks.{mask_of_lt, mask_of_more, mask_of_none}
 use borrow.Author.Rules.{rules}
 use Rattle.arrays.proofs.rules.let_in.Goals as goal
 

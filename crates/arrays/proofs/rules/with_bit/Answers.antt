@@ -1,6 +1,6 @@
 -- `with_bit` meets its contract. Assumes nothing.
 use native.Mathlib.Omega.{arith}
-use Rattle.finite.specs.laws.Masks.{more_fits, one_shifted}
+use Rattle.finite.proofs.laws.Masks.{more_fits, one_shifted}
 use Rattle.arrays.proofs.rules.with_bit.Goals as goal
 
 pub overflow_add-result : goal.overflow_add-result

@@ -3,8 +3,8 @@ use mathlib.Core.Bool.{true}
 use Prim.Native.Nat.{◌-◌}
 use native.Mathlib.Omega.{arith}
 use borrow.Author.Tests.{eq-eqb, ne_eqb}
-use Rattle.records.specs.laws.Fields.{Long}
-use Rattle.records.specs.laws.InRange.{range_fields}
+use Rattle.records.proofs.laws.Fields.{Long}
+use Rattle.records.proofs.laws.InRange.{range_fields}
 use Rattle.dispatch.specs.laws.Admitting.{admits_by, begins, scan_is, stays}
 use Rattle.dispatch.specs.laws.Updates.{filling_none}
 use borrow.Author.Rules.{rules}

@@ -7,7 +7,7 @@ use Rattle.promise.specs.Rules.{lets_in}
 use Rattle.records.specs.Ranges.{in_range}
 use Rattle.records.specs.Record.{state_in}
 use Rattle.records.specs.Held.{tasks_in}
-use Rattle.records.specs.laws.Fields.{Long}
+use Rattle.records.proofs.laws.Fields.{Long}
 use Rattle.dispatch.specs.laws.Admitting.{admitted_state}
 use Rattle.dispatch.specs.laws.Updates.{filling}
 use Rattle.dispatch.proofs.steps.admit.Given as goal

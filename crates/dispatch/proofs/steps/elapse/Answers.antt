@@ -1,7 +1,7 @@
 use mathlib.Core.Path.{refl}
 use Prim.Native.Nat.{◌-◌}
 use native.Mathlib.Omega.{arith}
-use Rattle.records.specs.laws.InRange.{range_fields}
+use Rattle.records.proofs.laws.InRange.{range_fields}
 use Rattle.dispatch.specs.laws.Elapsing.{ages, elapses_by}
 use Rattle.dispatch.specs.laws.Updates.{filling_none}
 use borrow.Author.Rules.{rules}

@@ -3,7 +3,7 @@ use mathlib.Core.Path.{◌≡◌}
 use mathlib.Core.Bool.{true}
 use Prim.Native.Nat.{◌-◌, ◌≤◌}
 use Rattle.records.specs.Ranges.{in_range}
-use Rattle.records.specs.laws.Fields.{Long}
+use Rattle.records.proofs.laws.Fields.{Long}
 use Rattle.dispatch.specs.laws.Elapsing.{elapsed_state}
 use Rattle.dispatch.specs.laws.Updates.{filling}
 use Rattle.dispatch.proofs.steps.elapse.Given as goal

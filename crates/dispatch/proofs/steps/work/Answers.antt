@@ -1,6 +1,6 @@
 -- `work` meets its contract. Assumes nothing.
 use Prim.Native.Nat.{◌<◌}
-use Rattle.records.specs.laws.Fields.{Long}
+use Rattle.records.proofs.laws.Fields.{Long}
 use Rattle.dispatch.specs.laws.Working.{Found, below, ticks_some, works_done, works_none, works_on, works_phase, works_piece}
 use borrow.Author.Rules.{rules}
 use Rattle.dispatch.proofs.steps.work.Goals as goal

@@ -3,7 +3,7 @@
 use Prim.Native.Nat.{◌≤◌, ◌-◌}
 use lib.ListN.{get_or, length}
 use mathlib.Core.Path.{◌≡◌}
-use Rattle.finite.specs.laws.Lists.{filled}
+use Rattle.finite.proofs.laws.Lists.{filled}
 use Rattle.pieces.specs.Counts.{count_at}
 use Rattle.pieces.specs.Bare.{bare_tasks}
 use Rattle.pieces.proofs.counts.counts.Given as goal

@@ -1,7 +1,7 @@
 use Prim.Native.Nat.{◌-◌}
 use mathlib.Core.Path.{refl, ◌∙◌}
 use native.Mathlib.Omega.{arith}
-use Rattle.finite.specs.laws.Lists.{filled_end, filled_more, filled_none}
+use Rattle.finite.proofs.laws.Lists.{filled_end, filled_more, filled_none}
 use Rattle.pieces.specs.Counts.{longest_at}
 use Rattle.pieces.proofs.counts.longests.Goals as goal
 

@@ -3,7 +3,7 @@
 use Prim.Native.Nat.{◌≤◌, ◌-◌}
 use lib.ListN.{length}
 use mathlib.Core.Path.{◌≡◌}
-use Rattle.finite.specs.laws.Lists.{filled}
+use Rattle.finite.proofs.laws.Lists.{filled}
 use Rattle.model.specs.Arrays.{phase_at}
 use Rattle.pieces.specs.Counts.{longest_at}
 use Rattle.pieces.specs.Bare.{bare_tasks}

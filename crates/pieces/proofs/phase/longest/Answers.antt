@@ -3,7 +3,7 @@
 use Prim.Native.Nat.{◌≤◌}
 use native.Mathlib.Omega.{arith}
 use Rattle.model.specs.Phase.{longest_piece}
-use Rattle.model.specs.laws.Plain.{ceil_most}
+use Rattle.model.proofs.laws.Plain.{ceil_most}
 use Rattle.pieces.proofs.phase.longest.Goals as goal
 
 pub overflow_add-result : goal.overflow_add-result

@@ -1,7 +1,7 @@
 -- `phase_at` reads the place of a phase.
 -- Assumes nothing.
 use mathlib.Core.Path.{sym}
-use Rattle.model.specs.laws.Arrays.{phase_at_lem}
+use Rattle.model.proofs.laws.Arrays.{phase_at_lem}
 use Rattle.pieces.proofs.task.phase_at.Goals as goal
 
 pub returns : goal.returns

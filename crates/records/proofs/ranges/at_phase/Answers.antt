@@ -1,6 +1,6 @@
 -- `at_phase` meets its contract. Assumes nothing.
 use mathlib.Core.Path.{sym}
-use Rattle.model.specs.laws.Arrays.{phase_at_lem, phase_none}
+use Rattle.model.proofs.laws.Arrays.{phase_at_lem, phase_none}
 use Rattle.records.proofs.ranges.at_phase.Goals as goal
 
 pub returns-then-j-lt8 : goal.returns-then-j-lt8

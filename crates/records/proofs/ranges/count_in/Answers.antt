@@ -1,5 +1,5 @@
 -- `count_in` meets its contract. Assumes nothing.
-use Rattle.records.specs.laws.Lent.{count_by}
+use Rattle.records.proofs.laws.Lent.{count_by}
 use Rattle.records.proofs.ranges.count_in.Goals as goal
 
 pub returns : goal.returns

@@ -6,7 +6,7 @@ use Prim.Native.Nat.{ℕ, ◌-◌, ◌≤◌}
 use lib.ListN.{get_or}
 use Rattle.model.specs.Ranges.{cost_most, work_most}
 use Rattle.records.specs.Lent.{in_place_at}
-use Rattle.records.specs.laws.Lent.{all_after}
+use Rattle.records.proofs.laws.Lent.{all_after}
 use Rattle.records.proofs.ranges.held_in.Given as goal
 
 -- the tests of each number of a phase

@@ -1,5 +1,5 @@
 -- `in_place` meets its contract. Assumes nothing.
-use Rattle.records.specs.laws.Lent.{in_place_by}
+use Rattle.records.proofs.laws.Lent.{in_place_by}
 use Rattle.records.proofs.ranges.in_place.Goals as goal
 
 pub returns : goal.returns

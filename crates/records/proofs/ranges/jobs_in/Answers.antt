@@ -1,7 +1,7 @@
 use mathlib.Core.Path.{◌≡◌, ◌∙◌}
 use Prim.Native.Nat.{◌-◌}
 use native.Mathlib.Omega.{arith}
-use Rattle.finite.specs.laws.Lists.{all_none, all_more}
+use Rattle.finite.proofs.laws.Lists.{all_none, all_more}
 use borrow.Author.Rules.{rules}
 use Rattle.records.proofs.ranges.jobs_in.Goals as goal
 

@@ -1,7 +1,7 @@
 use Prim.Native.Nat.{◌-◌}
 use mathlib.Core.Path.{refl, ◌∙◌}
 use native.Mathlib.Omega.{arith}
-use Rattle.finite.specs.laws.Lists.{filled_end, filled_more, filled_none, list_of}
+use Rattle.finite.proofs.laws.Lists.{filled_end, filled_more, filled_none, list_of}
 use Rattle.walk.proofs.deadlines.first_deadlines.Goals as goal
 
 pub loop-i-init : goal.loop-i-init

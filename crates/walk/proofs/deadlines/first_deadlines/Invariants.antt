@@ -3,7 +3,7 @@
 use Prim.Native.Nat.{◌≤◌, ◌-◌}
 use lib.ListN.{get_or, length}
 use mathlib.Core.Path.{◌≡◌}
-use Rattle.finite.specs.laws.Lists.{filled}
+use Rattle.finite.proofs.laws.Lists.{filled}
 use Rattle.walk.proofs.deadlines.first_deadlines.Given as goal
 
 abbrev pub invariant-loop-i : goal.invariant-loop-i

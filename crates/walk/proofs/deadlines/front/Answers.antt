@@ -1,6 +1,6 @@
 use Prim.Native.Nat.{◌-◌}
 use native.Mathlib.Omega.{arith}
-use Rattle.walk.specs.laws.Deadlines.{earliest_all, earliest_more, earliest_one}
+use Rattle.walk.proofs.laws.Deadlines.{earliest_all, earliest_more, earliest_one}
 use Rattle.walk.proofs.deadlines.front.Goals as goal
 
 pub loop-i-init : goal.loop-i-init

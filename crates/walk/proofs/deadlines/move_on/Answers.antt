@@ -1,7 +1,7 @@
 -- `move_on` meets its contract, by its test: a task that is due gets its new deadline and its bit, any other keeps what it has.
 -- Assumes nothing.
 use borrow.Author.Rules.{rules}
-use Rattle.walk.specs.laws.Deadlines.{moves_due, moves_not}
+use Rattle.walk.proofs.laws.Deadlines.{moves_due, moves_not}
 use Rattle.walk.proofs.deadlines.move_on.Goals as goal
 
 pub returns-then-v-t : goal.returns-then-v-t

@@ -1,6 +1,6 @@
 use Prim.Native.Nat.{◌-◌}
 use native.Mathlib.Omega.{arith}
-use Rattle.walk.specs.laws.Deadlines.{moving_all, moving_more, moving_near, moving_none}
+use Rattle.walk.proofs.laws.Deadlines.{moving_all, moving_more, moving_near, moving_none}
 use Rattle.walk.proofs.deadlines.pass.Goals as goal
 
 pub loop-i-init : goal.loop-i-init

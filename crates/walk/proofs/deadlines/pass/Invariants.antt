@@ -1,7 +1,7 @@
 -- `pass` meets its contract. The invariant: there is a task i, and the tasks before it are passed.
 -- Assumes nothing.
 use Prim.Native.Nat.{◌-◌, ◌<◌}
-use Rattle.walk.specs.laws.Deadlines.{MovingOn}
+use Rattle.walk.proofs.laws.Deadlines.{MovingOn}
 use Rattle.walk.proofs.deadlines.pass.Given as goal
 
 abbrev pub invariant-loop-i : goal.invariant-loop-i

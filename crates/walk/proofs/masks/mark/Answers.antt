@@ -1,7 +1,7 @@
 -- `mark` meets its contract: a bit above all others is added. Assumes nothing.
 use mathlib.Core.Path.{refl}
-use Rattle.finite.specs.laws.Masks.{more_fits}
-use Rattle.walk.specs.laws.Masks.{marks}
+use Rattle.finite.proofs.laws.Masks.{more_fits}
+use Rattle.walk.proofs.laws.Masks.{marks}
 use Rattle.walk.proofs.masks.mark.Goals as goal
 
 pub overflow_add-result : goal.overflow_add-result

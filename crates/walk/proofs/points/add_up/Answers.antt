@@ -1,5 +1,5 @@
 use native.Mathlib.Omega.{arith}
-use Rattle.walk.specs.laws.Budgets.{adding_all, adding_fits, adding_more, adding_none, adding_room}
+use Rattle.walk.proofs.laws.Budgets.{adding_all, adding_fits, adding_more, adding_none, adding_room}
 use Rattle.walk.proofs.points.add_up.Goals as goal
 
 pub loop-rest-init : goal.loop-rest-init

@@ -2,7 +2,7 @@
 -- Assumes nothing.
 use mathlib.Core.List.{[]}
 use Rattle.model.specs.Arrays.{arrays_as}
-use Rattle.walk.specs.laws.Budgets.{AddingUp}
+use Rattle.walk.proofs.laws.Budgets.{AddingUp}
 use Rattle.walk.proofs.points.add_up.Given as goal
 
 abbrev pub invariant-loop-rest : goal.invariant-loop-rest

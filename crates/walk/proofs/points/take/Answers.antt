@@ -1,7 +1,7 @@
 -- `take` meets its contract, by the test: two stores at the first deadline, none at the others.
 -- Assumes nothing.
 use mathlib.Core.Path.{sym, ◌∙◌}
-use Rattle.walk.specs.laws.Budgets.{settles_again, settles_first}
+use Rattle.walk.proofs.laws.Budgets.{settles_again, settles_first}
 use Rattle.walk.proofs.points.take.Goals as goal
 
 pub budget_under-b-requires : goal.budget_under-b-requires

@@ -1,6 +1,6 @@
 -- `take_point` meets its contract: the point is passed, and then the budgets are added up.
 -- Assumes nothing.
-use Rattle.walk.specs.laws.Take.{before_pass, before_sum, point_taken}
+use Rattle.walk.proofs.laws.Take.{before_pass, before_sum, point_taken}
 use Rattle.walk.proofs.points.take_point.Goals as goal
 
 pub pass-moved-requires : goal.pass-moved-requires

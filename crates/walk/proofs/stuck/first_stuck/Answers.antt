@@ -1,7 +1,7 @@
 use Prim.Native.Nat.{◌-◌}
 use mathlib.Core.Path.{refl}
 use native.Mathlib.Omega.{arith}
-use Rattle.walk.specs.laws.Stuck.{goes_free, none_found, searching_more, searching_none, stops_blocked, stuck_found, stuck_nowhere}
+use Rattle.walk.proofs.laws.Stuck.{goes_free, none_found, searching_more, searching_none, stops_blocked, stuck_found, stuck_nowhere}
 use Rattle.walk.proofs.stuck.first_stuck.Goals as goal
 
 pub loop-i-init : goal.loop-i-init

@@ -7,7 +7,7 @@ use mathlib.Core.Path.{◌≡◌}
 use Rattle.finite.specs.Finite.{Below}
 use Rattle.walk.specs.Stuck.{StuckTask}
 use Rattle.model.specs.Arrays.{arrays_as}
-use Rattle.walk.specs.laws.Stuck.{Searching}
+use Rattle.walk.proofs.laws.Stuck.{Searching}
 use Rattle.walk.proofs.stuck.first_stuck.Given as goal
 
 abbrev pub invariant-loop-i : goal.invariant-loop-i

@@ -1,7 +1,7 @@
 -- `judge_point` meets its contract, by its two tests.
 -- Assumes nothing.
 use native.Mathlib.Omega.{arith}
-use Rattle.walk.specs.laws.Stuck.{goes_roomy, stops_over}
+use Rattle.walk.proofs.laws.Stuck.{goes_roomy, stops_over}
 use Rattle.walk.proofs.stuck.judge_point.Goals as goal
 
 pub returns-then-t-demand : goal.returns-then-t-demand

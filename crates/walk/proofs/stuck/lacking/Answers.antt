@@ -2,7 +2,7 @@ use Prim.Native.Nat.{◌-◌}
 use mathlib.Core.Bool.{false}
 use mathlib.Core.Path.{sym, ◌∙◌}
 use native.Mathlib.Omega.{arith}
-use Rattle.walk.specs.laws.Stuck.{not_both, searching_all, searching_found, searching_more, searching_none}
+use Rattle.walk.proofs.laws.Stuck.{not_both, searching_all, searching_found, searching_more, searching_none}
 use Rattle.walk.proofs.stuck.lacking.Goals as goal
 
 pub loop-j-init : goal.loop-j-init

@@ -5,7 +5,7 @@ use lib.ListN.{get_or}
 use mathlib.Core.Bool.{false}
 use mathlib.Core.Path.{◌≡◌}
 use Rattle.pieces.specs.Bare.{phases_in}
-use Rattle.walk.specs.laws.Stuck.{Searching}
+use Rattle.walk.proofs.laws.Stuck.{Searching}
 use Rattle.walk.proofs.stuck.lacking.Given as goal
 
 abbrev pub invariant-loop-j : goal.invariant-loop-j

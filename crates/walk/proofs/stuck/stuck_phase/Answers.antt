@@ -1,7 +1,7 @@
 -- `stuck_phase` meets its contract, by its test: a task whose deadline is not after t does not block.
 -- Assumes nothing.
 use native.Mathlib.Omega.{arith}
-use Rattle.walk.specs.laws.Stuck.{first_out, first_same}
+use Rattle.walk.proofs.laws.Stuck.{first_out, first_same}
 use Rattle.walk.proofs.stuck.stuck_phase.Goals as goal
 
 pub returns-then-wide-t : goal.returns-then-wide-t

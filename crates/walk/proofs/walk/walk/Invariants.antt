@@ -2,7 +2,7 @@
 -- Assumes nothing.
 use Prim.Native.Nat.{◌+◌, ◌-◌}
 use Rattle.model.specs.Arrays.{arrays_as}
-use Rattle.walk.specs.laws.Ends.{Standing}
+use Rattle.walk.proofs.laws.Ends.{Standing}
 use Rattle.walk.proofs.walk.walk.Given as goal
 
 abbrev pub invariant-loop-t : goal.invariant-loop-t
