@@ -1,4 +1,3 @@
-use Prim.Native.Nat.{◌+◌, ◌-◌}
 use borrow.Author.Rules.{rules}
 use Rattle.groups.proofs.Passes.{begins_list, part_fits, part_passed, all_listed, same_long}
 use Rattle.answer.proofs.counts_of.Goals as goal

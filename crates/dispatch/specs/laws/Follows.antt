@@ -8,7 +8,7 @@ use Rattle.finite.specs.Masks.{bit, count_of, mask_of}
 use Rattle.finite.proofs.laws.Masks.{asked_split, mask_of_alike, ones_mask_of}
 use Rattle.model.specs.Phase.{Choice}
 use Rattle.model.specs.Tasks.{Tasks}
-use Rattle.promise.specs.Rules.{Answer, State, admit, answer_by, elapse, lets_in, pick, work_at}
+use Rattle.promise.specs.Rules.{State, admit, answer_by, elapse, lets_in, pick, work_at}
 use Rattle.promise.proofs.laws.Answers.{answer_lets}
 use Rattle.records.specs.Ranges.{in_range, usable}
 use Rattle.records.specs.Record.{record_of, request_of, state_in}

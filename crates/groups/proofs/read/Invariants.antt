@@ -1,6 +1,6 @@
 -- `groups::read` meets its contract. The invariant: the number is what was read, `value` below `weight`, in front of what the groups from p on give.
 -- Assumes nothing.
-use Prim.Native.Nat.{◌+◌, ◌-◌, ◌^◌, ◌≤◌, ◌<◌}
+use Prim.Native.Nat.{◌-◌, ◌^◌, ◌≤◌, ◌<◌}
 use mathlib.Core.Path.{◌≡◌}
 use Rattle.groups.specs.Number.{groups, number_at}
 use Rattle.groups.proofs.Reading.{read_on}

@@ -1,4 +1,3 @@
-use Prim.Native.Nat.{◌+◌, ◌-◌}
 use native.Mathlib.Omega.{arith}
 use Rattle.groups.proofs.Writing.{counted_more, counted_last, counted_full}
 use Rattle.groups.proofs.size.Goals as goal

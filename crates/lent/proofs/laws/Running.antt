@@ -1,10 +1,10 @@
 -- The demand of a slice as a running answer, one task after another; and that its contract allows one answer.
 -- Assumes nothing.
-use Rattle.std.specs.Prelude.{◌≡◌, refl, Bool, true, false, cond, List, ℕ, ◌+◌, ◌-◌, ◌*◌, ◌/◌, ◌≤◌, ◌<◌, ◌^◌, ltb, length}
+use Rattle.std.specs.Prelude.{◌≡◌, refl, Bool, true, false, cond, List, ℕ, ◌+◌, ◌-◌, ◌*◌, ◌/◌, ◌≤◌, ◌<◌, ◌^◌, length}
 use Rattle.std.proofs.Common.{sym, ap, ◌∙◌, ⊎_elim, add-one, arith, lt-ltb, le-ltb}
 use Rattle.finite.specs.Finite.{sum_to}
 use Rattle.finite.proofs.laws.Tests.{le_or_lt}
-use Rattle.model.specs.Demand.{demand, jobs}
+use Rattle.model.specs.Demand.{demand}
 use Rattle.model.proofs.laws.Jobs.{jobs_before, jobs_from}
 use Rattle.lent.specs.declared.TaskLoad.{TaskLoad}
 use Rattle.lent.specs.declared.Demand.{Demand}

@@ -9,7 +9,7 @@ use Rattle.model.specs.Phase.{Choice, Phases}
 use Rattle.model.specs.Tasks.{Each, Tasks}
 use Rattle.model.specs.TestPoints.{TestPoint}
 use Rattle.model.specs.Verdict.{Blocked, FirstBlocked}
-use Rattle.model.specs.Walk.{Move, above, blocked_phase, blocked_task, go_on, lacks, pass, stop}
+use Rattle.model.specs.Walk.{Move, blocked_phase, blocked_task, go_on, lacks, pass, stop}
 use Rattle.model.specs.Works.{Least, WorksUpTo, demand_of}
 
 abbrev pub MoveOk : Tasks → Phases → Choice → ℕ → Move → Type 0

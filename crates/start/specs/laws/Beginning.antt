@@ -8,7 +8,6 @@ use Rattle.model.specs.Arrays.{phase_at}
 use Rattle.model.specs.Phase.{Choice, phases_of}
 use Rattle.model.specs.Tasks.{Each, Sane, Tasks}
 use Rattle.model.specs.TestPoints.{horizon_of}
-use Rattle.model.specs.Verdict as verdict
 use Rattle.model.specs.Verdict.{Same, Verdict, accepted, refused}
 use Rattle.model.proofs.laws.Plain.{laws_of}
 use Rattle.model.proofs.laws.Unique.{judged_unique}

@@ -1,4 +1,3 @@
-use Prim.Native.Nat.{◌-◌}
 use borrow.Author.Rules.{rules}
 use Rattle.groups.proofs.Passes.{begins, part_fits, part_passed, all_passed, same_long}
 use Rattle.writer.specs.Written.{task_items}

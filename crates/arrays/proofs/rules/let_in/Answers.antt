@@ -1,5 +1,4 @@
 use mathlib.Core.Path.{◌≡◌}
-use Prim.Native.Nat.{◌-◌}
 use native.Mathlib.Omega.{arith}
 use Rattle.finite.proofs.laws.Masks.{mask_of_lt, mask_of_more, mask_of_none}
 use borrow.Author.Rules.{rules}

@@ -1,5 +1,4 @@
 use mathlib.Core.Path.{◌≡◌, refl}
-use Prim.Native.Nat.{◌-◌}
 use native.Mathlib.Omega.{arith}
 use Rattle.arrays.specs.laws.Rules.{urgent_more, urgent_time, urgent_none}
 use borrow.Author.Rules.{rules}

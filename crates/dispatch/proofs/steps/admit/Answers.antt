@@ -1,6 +1,4 @@
 use mathlib.Core.Path.{refl, ◌∙◌}
-use mathlib.Core.Bool.{true}
-use Prim.Native.Nat.{◌-◌}
 use native.Mathlib.Omega.{arith}
 use borrow.Author.Tests.{eq-eqb, ne_eqb}
 use Rattle.records.proofs.laws.Fields.{Long}

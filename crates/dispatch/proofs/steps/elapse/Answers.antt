@@ -1,5 +1,4 @@
 use mathlib.Core.Path.{refl}
-use Prim.Native.Nat.{◌-◌}
 use native.Mathlib.Omega.{arith}
 use Rattle.records.proofs.laws.InRange.{range_fields}
 use Rattle.dispatch.specs.laws.Elapsing.{ages, elapses_by}

@@ -1,8 +1,6 @@
-use Prim.Native.Nat.{◌-◌}
 use mathlib.Core.Path.{refl, ◌∙◌}
 use native.Mathlib.Omega.{arith}
 use Rattle.finite.proofs.laws.Lists.{filled_end, filled_more, filled_none}
-use Rattle.pieces.specs.Counts.{count_at}
 use Rattle.pieces.proofs.counts.counts.Goals as goal
 
 pub loop-place-init : goal.loop-place-init

@@ -1,8 +1,6 @@
-use Prim.Native.Nat.{◌-◌}
 use mathlib.Core.Path.{refl, ◌∙◌}
 use native.Mathlib.Omega.{arith}
 use Rattle.finite.proofs.laws.Lists.{filled_end, filled_more, filled_none}
-use Rattle.pieces.specs.Counts.{longest_at}
 use Rattle.pieces.proofs.counts.longests.Goals as goal
 
 pub loop-i-init : goal.loop-i-init

@@ -1,4 +1,3 @@
-use Prim.Native.Nat.{◌-◌}
 use native.Mathlib.Omega.{arith}
 use Rattle.pieces.specs.laws.Loops.{adding_all, adding_fits, adding_more, adding_none}
 use Rattle.pieces.proofs.task.budget_under.Goals as goal

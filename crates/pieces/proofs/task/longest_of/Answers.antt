@@ -1,4 +1,3 @@
-use Prim.Native.Nat.{◌-◌}
 use native.Mathlib.Omega.{arith}
 use Rattle.pieces.specs.laws.Loops.{rising_all, rising_more, rising_none, rising_some}
 use Rattle.pieces.proofs.task.longest_of.Goals as goal

@@ -1,7 +1,7 @@
 use mathlib.Core.Path.{◌≡◌, refl, sym, ap, ◌∙◌}
 use mathlib.Core.Bool.{Bool, ◌&&◌}
 use mathlib.Core.List.{List}
-use Prim.Native.Nat.{ℕ, ◌-◌}
+use Prim.Native.Nat.{ℕ}
 use native.Mathlib.Omega.{arith}
 use lib.Dec.{leb}
 use lib.ListN.{get_or}
@@ -9,7 +9,6 @@ use Rattle.finite.specs.Finite.{all_to}
 use Rattle.model.specs.Arrays.{arrays_as, as_tasks, phase_at, tasks_alone}
 use Rattle.model.specs.Ranges.{cost_most, table_test, task_test, tasks_most, work_most}
 use Rattle.model.proofs.laws.Arrays.{phase_place}
-use Rattle.records.specs.Lent.{in_place_at}
 use Rattle.records.specs.Held.{fixed_as, held_of, held_test}
 use Rattle.records.proofs.laws.Lent.{after_all, after_more, after_none, after_one, all_in_place, all_after, under_last, works_some}
 use borrow.Author.Rules.{rules}

@@ -1,5 +1,4 @@
 use mathlib.Core.Path.{◌≡◌, ◌∙◌}
-use Prim.Native.Nat.{◌-◌}
 use native.Mathlib.Omega.{arith}
 use Rattle.finite.proofs.laws.Lists.{all_none, all_more}
 use borrow.Author.Rules.{rules}

@@ -1,6 +1,5 @@
 use native.Mathlib.Omega.{arith}
 use mathlib.Core.Path.{sym}
-use Prim.Native.Nat.{◌-◌}
 use Rattle.model.specs.Ranges.{horizon_most}
 use Rattle.table.proofs.Multiples.{Spaced, lcm_to_none, horizon_positive, spacing_positive, horizon_above, horizon_more, horizon_done}
 use Rattle.table.proofs.horizon.horizon.Goals as goal

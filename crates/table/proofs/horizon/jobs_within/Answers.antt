@@ -1,5 +1,4 @@
 use native.Mathlib.Omega.{arith}
-use Prim.Native.Nat.{◌-◌}
 use Rattle.model.specs.Ranges.{horizon_most}
 use Rattle.table.proofs.Multiples.{Summed, sum_none, sum_more, sum_small, sum_done}
 use Rattle.table.proofs.horizon.jobs_within.Goals as goal

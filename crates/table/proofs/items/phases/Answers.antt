@@ -1,4 +1,3 @@
-use Prim.Native.Nat.{◌-◌}
 use mathlib.Core.Path.{refl}
 use Rattle.table.specs.Parse.{phase}
 use Rattle.table.proofs.ItemLaws.{no_number, one_number, phase_by}

@@ -1,4 +1,3 @@
-use Prim.Native.Nat.{◌-◌}
 use native.Mathlib.Omega.{arith}
 use Rattle.walk.proofs.laws.Deadlines.{earliest_all, earliest_more, earliest_one}
 use Rattle.walk.proofs.deadlines.front.Goals as goal

@@ -1,4 +1,3 @@
-use Prim.Native.Nat.{◌-◌}
 use native.Mathlib.Omega.{arith}
 use Rattle.walk.proofs.laws.Deadlines.{moving_all, moving_more, moving_near, moving_none}
 use Rattle.walk.proofs.deadlines.pass.Goals as goal

@@ -1,4 +1,3 @@
-use Prim.Native.Nat.{◌-◌}
 use mathlib.Core.Path.{refl}
 use native.Mathlib.Omega.{arith}
 use Rattle.walk.proofs.laws.Stuck.{goes_free, none_found, searching_more, searching_none, stops_blocked, stuck_found, stuck_nowhere}

@@ -1,4 +1,3 @@
-use Prim.Native.Nat.{◌+◌, ◌-◌}
 use native.Mathlib.Omega.{arith}
 use Rattle.walk.proofs.laws.Ends.{standing_accepts, standing_later, standing_more, standing_ready, standing_refuses, standing_small, standing_start, standing_stop}
 use Rattle.walk.proofs.walk.walk.Goals as goal
