@@ -1,8 +1,10 @@
-// Stored cases on standard input: for each its length in two bytes, the lower first, and then its bytes.
-ghost use Rattle.std.specs.Prelude.{◌≡◌, true, false, ◌-◌, ◌≤◌, ◌<◌};
-ghost use Rattle.io.specs.Counts.{IsPrefixLen};
+// Stored cases on an input: for each its length in two bytes, the lower first, and then its bytes.
+#![tactic(auto)]
 
-use libc::{STDIN_FILENO, STDOUT_FILENO};
+ghost use Rattle.std.specs.Prelude.{◌≡◌, true, false, ◌-◌, ◌≤◌, ◌<◌, IfOk, length};
+
+use show::read_full;
+use std::io::{self, Read, Write};
 
 // A case of `length` bytes at the front of the buffer. `left` is 0 where there is none; it counts down from case to case, since a proved loop has to
 // end and nothing says that the input does. `cut` where the input ended within a case, or the buffer had no room for one.
@@ -24,80 +26,82 @@ struct Announced {
 fn one_less(n: u64) -> u64
     ensures { result ≡ n - 1 }
 {
-    if n == 0 { 0 } else { n - 1 }
+    n.saturating_sub(1)
 }
 
 // A byte as a number.
 fn wide(x: u8) -> usize
     ensures { result < 256 }
 {
-    x as usize
+    usize::from(x)
 }
 
 // The end of the cases, behind a whole one or, `cut`, within one.
-fn end(cut: bool, buffer: &[u8]) -> Case
-    ensures prefix_len { IsPrefixLen result.length buffer.now }
+fn end(cut: bool) -> Case
+    ensures prefix_len { result.length ≡ 0 }
     ensures left_value { (result.left ≡ 0) × (result.cut ≡ cut) }
 {
     Case {
         left: 0,
-        length: io::count(0, buffer),
+        length: 0,
         cut,
     }
 }
 
 // The length of the next case, in `bytes` bytes: fewer than two where the input ended.
-fn head() -> Announced
-    ensures { result.length < 65536 }
+fn head<R: Read>(input: &mut R) -> io::Result<Announced>
+    ensures { IfOk result (λ h. h.length < 65536) }
 {
     let mut two = [0u8; 2];
-    let bytes = io::read_full(STDIN_FILENO, &mut two);
-    Announced {
+    let bytes = read_full(input, &mut two)?;
+    Ok(Announced {
         bytes,
         length: wide(two[0]) + 256 * wide(two[1]),
-    }
+    })
 }
 
-// A case of `length` bytes of which `got` were there. Where that is fewer the case was cut, and is not handed out.
-fn body(left: u64, length: usize, got: usize, buffer: &[u8]) -> Case
-    requires { length < 65536 }
-    ensures prefix_len { IsPrefixLen result.length buffer.now }
+// A case of `whole` bytes of which `got` were there. Where that is fewer the case was cut, and is not handed out.
+fn body(left: u64, whole: usize, got: usize, buffer: &[u8]) -> Case
+    ensures prefix_len { result.length ≤ length buffer.now }
     ensures left_bound { (result.left ≤ left - 1) × (result.cut ≡ true → result.left ≡ 0) }
-    ensures cut_value { (got < length → result.cut ≡ true) × (length ≤ got → result.cut ≡ false) }
+    ensures cut_value { (got < whole → result.cut ≡ true) × (whole ≤ got → result.cut ≡ false) }
 {
-    if got < length {
-        return end(true, buffer);
+    if got < whole {
+        return end(true);
     }
     Case {
         left: one_less(left),
-        length: io::count(length as isize, buffer),
+        length: whole.min(buffer.len()),
         cut: false,
     }
 }
 
-// The case behind `last`; a buffer of 65,536 bytes has room for any.
-pub fn next(last: Case, buffer: &mut [u8]) -> Case
-    ensures prefix_len { IsPrefixLen result.length buffer.new }
-    ensures left_bound { (result.left ≤ last.left - 1) × (result.cut ≡ true → result.left ≡ 0) }
+// The case behind `last`; a buffer of 65,536 bytes has room for any. Behind an error the buffer has the length that it had.
+pub fn next<R: Read>(input: &mut R, last: Case, buffer: &mut [u8]) -> io::Result<Case>
+    ensures prefix_len { IfOk result (λ c. c.length ≤ length buffer.new) }
+    ensures left_bound { IfOk result (λ c. (c.left ≤ last.left - 1) × (c.cut ≡ true → c.left ≡ 0)) }
+    ensures room { length buffer.new ≡ length buffer.old }
 {
-    let h = head();
+    let h = head(input)?;
     if h.bytes < 2 {
-        return end(0 < h.bytes, buffer);
+        return Ok(end(0 < h.bytes));
     }
     let length = h.length;
     if buffer.len() < length {
-        return end(true, buffer);
+        return Ok(end(true));
     }
-    let got = io::read_full(STDIN_FILENO, &mut buffer[0..length]);
-    body(last.left, length, got, buffer)
+    let got = read_full(input, &mut buffer[..length])?;
+    Ok(body(last.left, length, got, buffer))
 }
 
 // The first case.
-pub fn first(buffer: &mut [u8]) -> Case
-    ensures prefix_len { IsPrefixLen result.length buffer.new }
-    ensures left_value { result.cut ≡ true → result.left ≡ 0 }
+pub fn first<R: Read>(input: &mut R, buffer: &mut [u8]) -> io::Result<Case>
+    ensures prefix_len { IfOk result (λ c. c.length ≤ length buffer.new) }
+    ensures left_value { IfOk result (λ c. c.cut ≡ true → c.left ≡ 0) }
+    ensures room { length buffer.new ≡ length buffer.old }
 {
     next(
+        input,
         Case {
             left: u64::MAX,
             length: 0,
@@ -108,8 +112,9 @@ pub fn first(buffer: &mut [u8]) -> Case
 }
 
 // Behind the last case: a line where it was cut, so that what is printed is not taken for the output of a shorter list.
-pub fn finish(last: Case) {
+pub fn finish<W: Write>(out: &mut W, last: Case) -> io::Result<()> {
     if last.cut {
-        io::write_all(STDOUT_FILENO, b"the cases end within a case\n");
+        writeln!(out, "the cases end within a case")?;
     }
+    Ok(())
 }

@@ -1,25 +1,50 @@
-// What the programs print alike. What is printed no contract can say; it is compared with stored output.
-ghost use Rattle.std.specs.Prelude.{◌≡◌, ◌+◌, ◌%◌, ◌^◌};
+// What the programs print alike, and how they read. What is printed no contract can say; it is compared with stored output.
+#![tactic(auto)]
 
-use libc::STDOUT_FILENO;
+ghost use Rattle.std.specs.Prelude.{◌≡◌, ◌+◌, ◌%◌, ◌^◌, ◌≤◌, IfOk, length};
+
+use std::io::{self, ErrorKind, Read, Write};
 
 // A number behind a space.
-pub fn spaced_number(n: u64) {
-    io::write_all(STDOUT_FILENO, b" ");
-    io::print_decimal(STDOUT_FILENO, n);
+pub fn spaced_number<W: Write>(out: &mut W, n: u64) -> io::Result<()> {
+    write!(out, " {n}")
 }
 
 // The number of the task at place i: tasks are numbered from 1.
 pub fn task_number(i: usize) -> u64
     ensures { result ≡ (i + 1) % 2 ^ 64 }
 {
-    std::num::wrapping_add_u64(i as u64, 1)
+    (i as u64).wrapping_add(1)
 }
 
 // The words, a reason and a place: the line of what was turned away.
-pub fn turned_away(words: &[u8], reason: u8, place: u64) {
-    io::write_all(STDOUT_FILENO, words);
-    spaced_number(reason as u64);
-    spaced_number(place);
-    io::write_all(STDOUT_FILENO, b"\n");
+pub fn turned_away<W: Write>(out: &mut W, words: &[u8], reason: u8, place: u64) -> io::Result<()> {
+    out.write_all(words)?;
+    spaced_number(out, u64::from(reason))?;
+    spaced_number(out, place)?;
+    out.write_all(b"\n")
+}
+
+// Reads until the buffer is full or the input ends: how many bytes it put at the front of the buffer. A read that a signal interrupts is made again.
+// A proved loop has to end, and nothing says that the input does: the turns are counted. Behind an error the buffer has the length that it had.
+pub fn read_full<R: Read>(input: &mut R, buffer: &mut [u8]) -> io::Result<usize>
+    ensures prefix_len { IfOk result (λ n. n ≤ length buffer.new) }
+    ensures room { length buffer.new ≡ length buffer.old }
+{
+    let mut done = 0;
+    for _ in 0..u64::MAX {
+        if buffer.len() <= done {
+            return Ok(done);
+        }
+        match input.read(&mut buffer[done..]) {
+            Ok(0) => return Ok(done),
+            Ok(n) => done += n,
+            Err(e) => {
+                if e.kind() != ErrorKind::Interrupted {
+                    return Err(e);
+                }
+            }
+        }
+    }
+    Err(io::Error::from(ErrorKind::TimedOut))
 }
