@@ -24,7 +24,7 @@ pub fn none() -> Tally {
 pub fn sum(a: u64, b: u64) -> u64
     ensures { result ≡ (a + b) % 2 ^ 64 }
 {
-    std::num::wrapping_add_u64(a, b)
+    a.wrapping_add(b)
 }
 
 // One job more of each task let in, released in this tick.
@@ -43,7 +43,7 @@ pub fn admit(tally: Tally, tick: u64, mask: u32) -> Tally {
 pub fn complete(tally: Tally, tick: u64, i: usize) -> Tally {
     let mut t = tally;
     if i < 32 {
-        let response = sum(std::num::wrapping_sub_u64(tick, t.released[i]), 1);
+        let response = sum(tick.wrapping_sub(t.released[i]), 1);
         t.finished[i] = sum(t.finished[i], 1);
         if t.worst[i] < response {
             t.worst[i] = response;
