@@ -1,19 +1,18 @@
 // Runs the thin calls over references: the demand of table A of document 01 at some lengths, demands at the edge of 64 bits, and the worked
 // run of table A on a record that is lent for each tick.
+#![tactic(auto)]
+
 use dispatch::Answer;
 use lent::{Demand, TaskLoad};
-use libc::STDOUT_FILENO;
 use records::Dispatcher;
-use show::spaced_number;
+use std::io::{self, BufWriter, Write};
 
 // A line: the length t and the demand there, or the word that it does not fit.
-fn print_demand(t: u64, d: Demand) {
-    io::print_decimal(STDOUT_FILENO, t);
+fn print_demand<W: Write>(out: &mut W, t: u64, d: Demand) -> io::Result<()> {
     if d.fits {
-        spaced_number(d.sum);
-        io::write_all(STDOUT_FILENO, b"\n");
+        writeln!(out, "{t} {}", d.sum)
     } else {
-        io::write_all(STDOUT_FILENO, b" does not fit\n");
+        writeln!(out, "{t} does not fit")
     }
 }
 
@@ -39,27 +38,27 @@ fn table_a() -> [TaskLoad; 32] {
 }
 
 // The demands of table A, then those at the edge of 64 bits.
-fn print_demands() {
+fn print_demands<W: Write>(out: &mut W) -> io::Result<()> {
     let mut tasks = table_a();
-    print_demand(7, lent::demand_of(tasks, 7));
-    print_demand(8, lent::demand_of(tasks, 8));
-    print_demand(17, lent::demand_of(tasks, 17));
-    print_demand(18, lent::demand_of(tasks, 18));
-    print_demand(20, lent::demand_of(tasks, 20));
+    print_demand(out, 7, lent::demand_of(tasks, 7))?;
+    print_demand(out, 8, lent::demand_of(tasks, 8))?;
+    print_demand(out, 17, lent::demand_of(tasks, 17))?;
+    print_demand(out, 18, lent::demand_of(tasks, 18))?;
+    print_demand(out, 20, lent::demand_of(tasks, 20))?;
     // One job of the largest budget fits; with one tick more, or with a second job, it does not.
     tasks[0] = TaskLoad {
         spacing: 10,
         deadline: 8,
         budget: 18446744073709551615,
     };
-    print_demand(17, lent::demand_of(tasks, 17));
-    print_demand(18, lent::demand_of(tasks, 18));
+    print_demand(out, 17, lent::demand_of(tasks, 17))?;
+    print_demand(out, 18, lent::demand_of(tasks, 18))?;
     tasks[31] = TaskLoad {
         spacing: 0,
         deadline: 8,
         budget: 1,
     };
-    print_demand(17, lent::demand_of(tasks, 17));
+    print_demand(out, 17, lent::demand_of(tasks, 17))
 }
 
 // Table A ready to run: 10/8 with one phase 2+1 in one piece, 20/18 with one phase 9+1 in three.
@@ -95,32 +94,32 @@ fn asked(tick: u64) -> u32 {
 }
 
 // A line: the tick, the masks let in and turned away, the task that ran with its phase and piece, and whether its job finished.
-fn print_tick(tick: u64, a: Answer) {
-    io::print_decimal(STDOUT_FILENO, tick);
-    spaced_number(a.admitted as u64);
-    spaced_number(a.away as u64);
-    spaced_number(a.task as u64);
-    spaced_number(a.phase as u64);
-    spaced_number(a.piece as u64);
+fn print_tick<W: Write>(out: &mut W, tick: u64, a: Answer) -> io::Result<()> {
+    write!(
+        out,
+        "{tick} {} {} {} {} {}",
+        a.admitted, a.away, a.task, a.phase, a.piece
+    )?;
     if a.finished {
-        io::write_all(STDOUT_FILENO, b" finished");
+        out.write_all(b" finished")?;
     }
-    io::write_all(STDOUT_FILENO, b"\n");
+    out.write_all(b"\n")
 }
 
 // The worked run of table A, tick by tick.
-fn print_run() {
+fn print_run<W: Write>(out: &mut W) -> io::Result<()> {
     let mut dispatcher = ready_a();
-    let mut tick: u64 = 0;
-    while tick < 18 {
+    for tick in 0u64..18 {
         let t = lent::ticked(dispatcher, asked(tick), false);
-        print_tick(tick, t.answer);
+        print_tick(out, tick, t.answer)?;
         dispatcher = t.next;
-        tick = tick + 1;
     }
+    Ok(())
 }
 
-fn main() {
-    print_demands();
-    print_run();
+fn main(rt: HostRuntime) -> io::Result<()> {
+    let mut out = BufWriter::new(rt.alloc(), rt.stdout())?;
+    print_demands(&mut out)?;
+    print_run(&mut out)?;
+    out.flush()
 }
