@@ -2,7 +2,7 @@
 // line for each tick and, at the end, what became of each task's jobs; or, of a table that is not accepted, what program `judge` prints.
 #![tactic(auto)]
 
-ghost use Rattle.std.specs.Prelude.{◌≡◌, ◌+◌, ◌≤◌, IfOk, length};
+ghost use Rattle.std.specs.Prelude.{◌≡◌, ◌+◌, ◌≤◌, IfOk, length, take, drop};
 
 use show_run::Run;
 use std::io::{self, BufWriter, Read, Write};
@@ -10,6 +10,8 @@ use std::io::{self, BufWriter, Read, Write};
 // The bytes from `from` on, `kept` of them, are moved to the front.
 fn moved(buffer: &mut [u8], from: usize, kept: usize)
     requires { from + kept ≤ length buffer.old }
+    ensures front { take kept buffer.new ≡ take kept (drop from buffer.old) }
+    ensures room { length buffer.new ≡ length buffer.old }
 {
     buffer.copy_within(from..from + kept, 0);
 }

@@ -1,7 +1,9 @@
 // What the programs print alike, and how they read. What is printed no contract can say; it is compared with stored output.
 #![tactic(auto)]
 
-ghost use Rattle.std.specs.Prelude.{◌≡◌, ◌+◌, ◌%◌, ◌^◌, ◌≤◌, IfOk, length};
+ghost use Rattle.std.specs.Prelude.{◌≡◌, ◌≢◌, ◌+◌, ◌%◌, ◌^◌, ◌<◌, ◌≤◌, IfOk, IfErr, length, take};
+ghost use Rattle.std.specs.Io.KnownBytes.{Consumes, IsAtEnd};
+ghost use Rattle.std.specs.IoError.{error_kind};
 
 use std::io::{self, ErrorKind, Read, Write};
 
@@ -25,11 +27,15 @@ pub fn turned_away<W: Write>(out: &mut W, words: &[u8], reason: u8, place: u64) 
     out.write_all(b"\n")
 }
 
-// Reads until the buffer is full or the input ends: how many bytes it put at the front of the buffer. A read that a signal interrupts is made again.
-// A proved loop has to end, and nothing says that the input does: the turns are counted. Behind an error the buffer has the length that it had.
+// Reads until the buffer is full or the input ends: how many bytes it put at the front of the buffer. They are the next of the input, and fewer than
+// the buffer has room for only at its end. A read that a signal interrupts is made again. A proved loop has to end, and nothing says that the input
+// does: the turns are counted. Behind an error the buffer has the length that it had, and what was read before it is lost.
 pub fn read_full<R: Read>(input: &mut R, buffer: &mut [u8]) -> io::Result<usize>
     ensures prefix_len { IfOk result (λ n. n ≤ length buffer.new) }
     ensures room { length buffer.new ≡ length buffer.old }
+    ensures bytes { IfOk result (λ n. Consumes (R.remaining input.old) (R.remaining input.new) (take n buffer.new)) }
+    ensures end { IfOk result (λ n. n < length buffer.new → IsAtEnd (R.remaining input.new)) }
+    ensures retried { IfErr result (λ e. error_kind e ≢ ErrorKind.Interrupted) }
 {
     let mut done = 0;
     for _ in 0..u64::MAX {

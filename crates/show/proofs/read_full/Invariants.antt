@@ -1,6 +1,8 @@
--- What was read stands within the buffer, whose length stays.
-use Rattle.std.proofs.Common.{◌≡◌, ◌≤◌, length}
+-- What was read stands at the front of the buffer, whose length stays, and is what the input lost.
+use Rattle.std.proofs.Common.{◌≡◌, ◌≤◌, length, take}
+use Rattle.std.specs.Io.KnownBytes.{Consumes}
 use Rattle.show.proofs.read_full.Given as goal
 
 abbrev pub invariant-loop : goal.invariant-loop
 invariant-loop g l = (l.done ≤ length l.buffer) × (length l.buffer ≡ length l.fn.buffer)
+    × Consumes (g.R.Read.remaining l.fn.input) (g.R.Read.remaining l.input) (take l.done l.buffer)
