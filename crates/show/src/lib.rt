@@ -1,14 +1,16 @@
-// What the programs print alike, and how they read. What is printed no contract can say; it is compared with stored output.
+// What the programs print alike, and how they read.
 #![tactic(auto)]
 
-ghost use Rattle.std.specs.Prelude.{◌≡◌, ◌≢◌, ◌+◌, ◌%◌, ◌^◌, ◌<◌, ◌≤◌, IfOk, IfErr, length, take};
-ghost use Rattle.std.specs.Io.KnownBytes.{Consumes, IsAtEnd};
+ghost use Rattle.std.specs.Prelude.{◌≡◌, ◌≢◌, ◌+◌, ◌%◌, ◌^◌, ◌<◌, ◌≤◌, IfOk, IfErr, OnOk, length, take, [], ◌∷◌, ◌++◌, decimal};
+ghost use Rattle.std.specs.Io.KnownBytes.{Appends, Consumes, IsAtEnd};
 ghost use Rattle.std.specs.IoError.{error_kind};
 
 use std::io::{self, ErrorKind, Read, Write};
 
 // A number behind a space.
-pub fn spaced_number<W: Write>(out: &mut W, n: u64) -> io::Result<()> {
+pub fn spaced_number<W: Write>(out: &mut W, n: u64) -> io::Result<()>
+    ensures { OnOk result (Appends (W.contents out.old) (W.contents out.new) (32 ∷ decimal n)) }
+{
     write!(out, " {n}")
 }
 

@@ -1,5 +1,5 @@
 // Runs the dispatcher over an input (the table's length, the table, then a number for each tick, 2 mask + flag) and prints it tick by tick. What is
-// printed no contract can say; it is compared with stored output.
+// printed no contract here says; it is compared with stored output.
 #![tactic(auto)]
 
 mod jobs;
