@@ -22,7 +22,10 @@ pub fn task_number(i: usize) -> u64
 }
 
 // The words, a reason and a place: the line of what was turned away.
-pub fn turned_away<W: Write>(out: &mut W, words: &[u8], reason: u8, place: u64) -> io::Result<()> {
+pub fn turned_away<W: Write>(out: &mut W, words: &[u8], reason: u8, place: u64) -> io::Result<()>
+    ensures { OnOk result (Appends (W.contents out.old) (W.contents out.new)
+        (words.now ++ (32 ∷ decimal reason) ++ (32 ∷ decimal place) ++ (10 ∷ []))) }
+{
     out.write_all(words)?;
     spaced_number(out, u64::from(reason))?;
     spaced_number(out, place)?;
