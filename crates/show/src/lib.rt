@@ -1,11 +1,10 @@
 // What the programs print alike, and how they read.
 #![tactic(auto)]
 
-ghost use Rattle.std.specs.Prelude.{◌≡◌, ◌≢◌, ◌+◌, ◌%◌, ◌^◌, ◌<◌, ◌≤◌, IfOk, IfErr, OnOk, length, take, [], ◌∷◌, ◌++◌, decimal};
+ghost use Rattle.std.specs.Prelude.{◌≡◌, ◌+◌, ◌%◌, ◌^◌, ◌<◌, ◌≤◌, IfOk, OnOk, length, take, [], ◌∷◌, ◌++◌, decimal};
 ghost use Rattle.std.specs.Io.KnownBytes.{Appends, Consumes, IsAtEnd};
-ghost use Rattle.std.specs.IoError.{error_kind};
 
-use std::io::{self, ErrorKind, Read, Write};
+use std::io::{self, Read, Write};
 
 // A number behind a space.
 pub fn spaced_number<W: Write>(out: &mut W, n: u64) -> io::Result<()>
@@ -33,29 +32,21 @@ pub fn turned_away<W: Write>(out: &mut W, words: &[u8], reason: u8, place: u64) 
 }
 
 // Reads until the buffer is full or the input ends: how many bytes it put at the front of the buffer. They are the next of the input, and fewer than
-// the buffer has room for only at its end. A read that a signal interrupts is made again. A proved loop has to end, and nothing says that the input
-// does: the turns are counted. Behind an error the buffer has the length that it had, and what was read before it is lost.
+// the buffer has room for only at its end. The first read that fails ends it with its error: the buffer then has the length that it had, and what was
+// read before is lost.
 pub fn read_full<R: Read>(input: &mut R, buffer: &mut [u8]) -> io::Result<usize>
     ensures prefix_len { IfOk result (λ n. n ≤ length buffer.new) }
     ensures room { length buffer.new ≡ length buffer.old }
     ensures bytes { IfOk result (λ n. Consumes (R.remaining input.old) (R.remaining input.new) (take n buffer.new)) }
     ensures end { IfOk result (λ n. n < length buffer.new → IsAtEnd (R.remaining input.new)) }
-    ensures retried { IfErr result (λ e. error_kind e ≢ ErrorKind.Interrupted) }
 {
     let mut done = 0;
-    for _ in 0..u64::MAX {
-        if buffer.len() <= done {
+    while done < buffer.len() {
+        let n = input.read(&mut buffer[done..])?;
+        if n == 0 {
             return Ok(done);
         }
-        match input.read(&mut buffer[done..]) {
-            Ok(0) => return Ok(done),
-            Ok(n) => done += n,
-            Err(e) => {
-                if e.kind() != ErrorKind::Interrupted {
-                    return Err(e);
-                }
-            }
-        }
+        done += n;
     }
-    Err(io::Error::from(ErrorKind::TimedOut))
+    Ok(done)
 }

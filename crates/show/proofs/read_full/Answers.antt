@@ -1,11 +1,10 @@
 use Rattle.std.proofs.Common.{◌≡◌, ℕ, ◌+◌, ◌-◌, ◌≤◌, List, ◌++◌, rules, arith, length, take, slice_range, sym, ap, ◌∙◌, subst, le_refl, drop_at, length-take-le}
 use Rattle.std.proofs.lemmas.Slice.{take-put_mid_below}
 use Rattle.std.specs.Io.KnownBytes.{Consumes}
-use Rattle.std.proofs.KnownBytes.{Consumes-trans, Consumes-kept}
+use Rattle.std.proofs.KnownBytes.{Consumes-trans}
 use borrow.Rule.Slice.PartMut.{put_mid, post_of}
 use lib.Seq.{take-add, take-append-le}
 use Rattle.show.proofs.read_full.Goals as goal
-use Rattle.show.proofs.read_full.Goals.{in-Ok, in-Err+else-ne}
 
 take_split : (a b : ℕ) (old new : List ℕ) → a ≤ b → take a new ≡ take a old → take a old ++ slice_range new a b ≡ take b new
 take_split a b old new h front =
@@ -18,22 +17,15 @@ slice_range-put_mid a k n xs ys within fits =
     let after = post_of a k xs in
     ap (take ((a + n) - a)) (drop_at (take a xs) (ys ++ after) a (length-take-le a xs within)) ∙ ap (λ m. take m (ys ++ after)) same ∙ take-append-le n ys after fits
 
--- A read put bytes behind those that were there, or was interrupted and put none.
-pub loop-preserved : goal.loop-preserved
-loop-preserved g c =
-    let from = c.loop.done in
-    let room = length c.loop.buffer - from in
-    let within = c.loop.invariant.0 in
-    let put = put_mid from room c.loop.buffer c.read.new.buf in
-    let read = λ (k : ℕ). Consumes (g.R.Read.remaining c.args.input.now) (g.R.Read.remaining c.read.new.self) (take k put) in
+-- A read put bytes behind those that were there.
+pub loop-done-preserved : goal.loop-done-preserved
+loop-done-preserved g c =
+    let from = c.loop-done.done in
+    let room = length c.loop-done.buffer - from in
+    let within = c.loop-done.invariant.0 in
+    let put = put_mid from room c.loop-done.buffer c.read.new.buf in
     let below = take-put_mid_below _ _ _ _ _ (le_refl _) within in
-    elim c.match-read.branch [
-      | in-Ok w ↦
-          let part = slice_range-put_mid from room w.in-Ok.n c.loop.buffer c.read.new.buf within w.in-Ok.ensures.bound.0 in
-          let joined = take_split from (from + w.in-Ok.n) c.loop.buffer put (omega arith) below in
-          let more = subst (Consumes _ _) (ap (λ l. take from c.loop.buffer ++ l) (sym part) ∙ joined) (Consumes-trans _ _ _ _ _ c.loop.invariant.2 w.in-Ok.ensures.bytes.0) in
-          (search rules, search rules, subst read (sym w.done-is) more)
-      | in-Err+else-ne w ↦
-          let same = subst (Consumes _ _) (sym below) (Consumes-kept _ _ _ _ c.loop.invariant.2 w.in-Err.ensures.bytes) in
-          (search rules, search rules, subst read (sym w.done-is) same)
-    ]
+    let part = slice_range-put_mid from room c.in_ok-n.n c.loop-done.buffer c.read.new.buf within c.in_ok-n.ensures.bound.0 in
+    let joined = take_split from (from + c.in_ok-n.n) c.loop-done.buffer put (omega arith) below in
+    let more = subst (Consumes _ _) (ap (λ l. take from c.loop-done.buffer ++ l) (sym part) ∙ joined) (Consumes-trans _ _ _ _ _ c.loop-done.invariant.2 c.in_ok-n.ensures.bytes.0) in
+    (search rules, search rules, more)
