@@ -7,7 +7,7 @@ use native.Mathlib.Omega.{arith}
 use lib.Dec.{ltb}
 use lib.ListN.{length, length-append}
 use Rattle.finite.specs.Finite.{join_to}
-use Rattle.finite.specs.If.{if◌then◌else◌}
+use Rattle.std.specs.Prelude.{if◌then◌else◌}
 use Rattle.groups.specs.Encode.{encode, encode_in, encode_all}
 
 pub encode_all_append : (ms ns : List ℕ) → encode_all (ms ++ ns) ≡ encode_all ms ++ encode_all ns

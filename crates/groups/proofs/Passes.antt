@@ -8,7 +8,7 @@ use native.Mathlib.Omega.{arith}
 use lib.ListN.{length, drop}
 use lib.Seq.{sets, length-sets, sets-eq}
 use Rattle.finite.specs.Finite.{join_to, list_to}
-use Rattle.finite.specs.If.{if◌then◌else◌}
+use Rattle.std.specs.Prelude.{if◌then◌else◌}
 use Rattle.finite.proofs.laws.Lists.{join_more, join_part, list_join}
 use Rattle.groups.specs.Encode.{encode, encode_all}
 use Rattle.groups.specs.Pass.{RoomFor, Passed}

@@ -3,7 +3,7 @@
 -- their own.) Assumes nothing.
 use Rattle.std.specs.Prelude.{ℕ, ◌+◌, ◌≤◌, Bool, List, ◌≡◌, length}
 use Rattle.std.proofs.lemmas.List.Edits.{sets}
-use Rattle.finite.specs.If.{if◌then◌else◌}
+use Rattle.std.specs.Prelude.{if◌then◌else◌}
 use Rattle.groups.specs.Encode.{encode_all}
 
 -- The numbers' bytes have room from `at` on: in the buffer where they are put, and where they are only measured below a bound so large that

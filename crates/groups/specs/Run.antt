@@ -1,7 +1,7 @@
 -- What leaves of this crate answer and leave, for their contracts. (Nobody need believe it: the public calls say what they answer and leave in words of
 -- their own.) Assumes nothing.
 use Rattle.std.specs.Prelude.{ℕ, ◌+◌, ◌*◌, Bool, ◌&&◌, eqb}
-use Rattle.finite.specs.If.{if◌then◌else◌}
+use Rattle.std.specs.Prelude.{if◌then◌else◌}
 use Rattle.groups.specs.declared.Number.{Number}
 use Rattle.groups.specs.declared.Number.TheVariants.{Value, Malformed}
 

@@ -1,6 +1,6 @@
 -- DEFINITIONS. What `groups::write` answers, and what it leaves in the buffer. Assumes nothing.
 use Rattle.std.specs.Prelude.{ℕ, ◌+◌, ◌^◌, List, ◌++◌, ◌≡◌, length, take, drop, leb, ltb}
-use Rattle.finite.specs.If.{if◌then◌else◌}
+use Rattle.std.specs.Prelude.{if◌then◌else◌}
 use Rattle.groups.specs.declared.NumberWritten.{NumberWritten}
 use Rattle.groups.specs.declared.NumberWritten.TheVariants.{To, TooLarge, NoRoom}
 use Rattle.groups.specs.Encode.{encode}

@@ -2,7 +2,7 @@
 -- Assumes nothing.
 use Rattle.std.specs.Prelude.{◌≡◌, Bool, ◌&&◌, List, [], ◌∷◌, ℕ, ◌/◌, ◌%◌, ◌≤◌, leb, ltb, eqb}
 use Rattle.finite.specs.Finite.{Below, all_to}
-use Rattle.finite.specs.If.{if◌then◌else◌}
+use Rattle.std.specs.Prelude.{if◌then◌else◌}
 use Rattle.model.specs.Tasks.{Each, Tasks}
 
 -- ---- the most of each item (the least is 1, of q 0; the most of D is T)

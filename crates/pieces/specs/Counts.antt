@@ -2,7 +2,7 @@
 -- in one of 32, place by place.
 -- Assumes nothing.
 use Rattle.std.specs.Prelude.{ℕ, ◌/◌, ◌%◌, ltb}
-use Rattle.finite.specs.If.{if◌then◌else◌}
+use Rattle.std.specs.Prelude.{if◌then◌else◌}
 use Rattle.model.specs.Phase.{Choice, phases_of}
 use Rattle.model.specs.Tasks.{Tasks}
 use Rattle.model.specs.Works.{longest}

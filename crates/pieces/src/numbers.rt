@@ -1,6 +1,6 @@
 // Numbers from one width to another, and the quotients that ℕ has.
 ghost use Rattle.std.specs.Prelude.{◌≡◌, ◌+◌, ◌/◌, ◌%◌, ◌^◌, ◌<◌, max};
-ghost use Rattle.finite.specs.If.{if◌then◌else◌};
+ghost use Rattle.std.specs.Prelude.{if◌then◌else◌};
 ghost use Rattle.model.specs.Phase.{ceil_div};
 
 // As wide as sums are formed in.

@@ -3,7 +3,7 @@
 -- Assumes nothing.
 use Rattle.std.specs.Prelude.{Bool, ◌&&◌, ℕ, ◌-◌, leb, ltb, eqb, get_or}
 use Rattle.finite.specs.Finite.{all_to}
-use Rattle.finite.specs.If.{if◌then◌else◌}
+use Rattle.std.specs.Prelude.{if◌then◌else◌}
 use Rattle.model.specs.Phase.{Choice}
 use Rattle.model.specs.Ranges.{within}
 use Rattle.model.specs.Tasks.{Tasks}

@@ -4,7 +4,7 @@
 use Rattle.std.specs.Prelude.{◌≡◌, ◌&&◌, List, ℕ, ltb}
 use Rattle.records.specs.Record.{empty_record}
 use Rattle.records.specs.Start.{ready_record}
-use Rattle.finite.specs.If.{if◌then◌else◌}
+use Rattle.std.specs.Prelude.{if◌then◌else◌}
 use Rattle.model.specs.Phase.{Choice, phases_of}
 use Rattle.model.specs.Tasks.{Tasks}
 use Rattle.model.specs.TestPoints.{horizon_of}

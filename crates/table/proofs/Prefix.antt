@@ -11,7 +11,7 @@ use lib.Dec.{leb, ltb, eqb, lit<}
 use lib.ListN.{length, get_or, take}
 use lib.Seq.{length-take-le, get_or-take}
 use Rattle.finite.proofs.laws.Tests.{and_both, le_or_lt}
-use Rattle.finite.specs.If.{if◌then◌else◌}
+use Rattle.std.specs.Prelude.{if◌then◌else◌}
 use Rattle.model.specs.Ranges.{FromTo, horizon_most, jobs_most, phase_numbers, phases_most, spacing_most, tasks_most}
 use Rattle.groups.specs.declared.Number.{Number}
 use Rattle.groups.specs.declared.Number.TheVariants.{Value, Ends, Malformed}

@@ -8,7 +8,7 @@ use lib.ListN.{get_or}
 use lib.Dec.{ltb}
 use borrow.Author.Tests.{lt-ltb, le-ltb}
 use Rattle.finite.specs.Finite.{sum_to}
-use Rattle.finite.specs.If.{if◌then◌else◌}
+use Rattle.std.specs.Prelude.{if◌then◌else◌}
 use Rattle.model.specs.Ranges.{horizon_most, jobs_most}
 use Rattle.model.specs.TestPoints.{lcm_to, horizon_of}
 use Rattle.model.proofs.laws.Lcm.{lcm_to_ok}

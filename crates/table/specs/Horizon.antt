@@ -1,6 +1,6 @@
 -- What the horizon's own functions are asked and answer, in the model's words. Assumes nothing.
 use Rattle.std.specs.Prelude.{◌≡◌, List, ℕ, ◌≤◌, ◌<◌, length, get_or, ltb}
-use Rattle.finite.specs.If.{if◌then◌else◌}
+use Rattle.std.specs.Prelude.{if◌then◌else◌}
 use Rattle.model.specs.Ranges.{tasks_most}
 
 -- the number, or 0 where it is above the limit

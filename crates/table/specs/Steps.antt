@@ -1,7 +1,7 @@
 -- What the reader's own functions answer, from one number on. (Nobody need believe these: `Parse` alone says what the public calls answer.)
 -- Assumes nothing.
 use Rattle.std.specs.Prelude.{ℕ, ◌-◌, ◌*◌, ◌≤◌, ◌≡◌, List, eqb}
-use Rattle.finite.specs.If.{if◌then◌else◌}
+use Rattle.std.specs.Prelude.{if◌then◌else◌}
 use Rattle.model.specs.Arrays.{Arrays, with_count}
 use Rattle.model.specs.Ranges.{phases_most, tasks_most}
 use Rattle.groups.specs.declared.Number.TheVariants.{Value}

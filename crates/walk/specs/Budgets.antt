@@ -3,7 +3,7 @@
 -- Assumes nothing.
 use Rattle.std.specs.Prelude.{◌≡◌, Bool, true, List, ℕ, ◌*◌, ◌≤◌, length, get_or, set, eqb}
 use Rattle.finite.specs.Finite.{Below, sum_to}
-use Rattle.finite.specs.If.{if◌then◌else◌}
+use Rattle.std.specs.Prelude.{if◌then◌else◌}
 use Rattle.model.specs.Arrays.{Arrays}
 use Rattle.model.specs.Ranges.{tasks_most}
 use Rattle.model.specs.Phase.{phases_of}

@@ -3,7 +3,7 @@
 -- Assumes nothing.
 use Rattle.std.specs.Prelude.{◌≡◌, false, List, ℕ, ◌+◌, ◌*◌, ◌^◌, ◌≤◌, ◌<◌, min, length, get_or, set, eqb}
 use Rattle.finite.specs.Finite.{Below}
-use Rattle.finite.specs.If.{if◌then◌else◌}
+use Rattle.std.specs.Prelude.{if◌then◌else◌}
 use Rattle.model.specs.Ranges.{horizon_most, spacing_most, tasks_most}
 use Rattle.walk.specs.Masks.{BitPut}
 use Rattle.finite.specs.Masks.{bit}

@@ -11,7 +11,7 @@ use lib.Seq.{take_at}
 use Rattle.model.specs.Ranges.{phases_most, tasks_most}
 use Rattle.finite.proofs.laws.Tests.{fails, ltb_decides}
 use Rattle.finite.proofs.laws.Searches.{any_decides}
-use Rattle.finite.specs.If.{if◌then◌else◌}
+use Rattle.std.specs.Prelude.{if◌then◌else◌}
 use Rattle.table.specs.declared.Table.{Table}
 use Rattle.table.specs.Parse.{got, table}
 use Rattle.table.specs.Valid.{Valid}

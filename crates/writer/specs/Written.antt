@@ -2,7 +2,7 @@
 use Rattle.std.specs.Prelude.{ℕ, ◌+◌, ◌*◌, List, [], ◌∷◌, ◌++◌, Bool, ◌||◌, ◌≡◌, length, get_or, drop, ltb}
 use Rattle.model.specs.Ranges.{phases_most, tasks_most}
 use Rattle.finite.specs.Finite.{any_to, join_to}
-use Rattle.finite.specs.If.{if◌then◌else◌}
+use Rattle.std.specs.Prelude.{if◌then◌else◌}
 use Rattle.groups.specs.Encode.{encode_all}
 use Rattle.table.specs.declared.Table.{Table}
 use Rattle.writer.specs.declared.TableWritten.{TableWritten}

@@ -4,7 +4,7 @@ use Rattle.std.specs.Prelude.{◌≡◌, true, ℕ, ◌+◌, ◌*◌, ◌-◌, �
 use Rattle.std.proofs.Math.Path.{refl}
 use Rattle.std.proofs.Common.{◌∙◌, le_antisymm, le_trans, mul-le-mul, mul-le-mul_right, arith, lt-ltb, ltb-true}
 use Rattle.finite.specs.Finite.{Below}
-use Rattle.finite.specs.If.{if◌then◌else◌}
+use Rattle.std.specs.Prelude.{if◌then◌else◌}
 use Rattle.finite.proofs.laws.Extremes.{max_least}
 use Rattle.model.specs.Arrays.{Arrays, as_tasks}
 use Rattle.model.specs.Phase.{Choice, brings, budget, ceil_div, has_room, longest_piece, needed, phases_of, piece_length}

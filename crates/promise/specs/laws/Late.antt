@@ -4,7 +4,7 @@
 -- two stand side by side, the general one has the name with `late-`.
 -- Assumes nothing.
 use Rattle.std.specs.Prelude.{◌≡◌, Bool, true, false, not, ◌&&◌, ◌||◌, ℕ, zero, suc, ◌+◌, ◌-◌, ◌≤◌, ◌<◌, min, leb, ltb}
-use Rattle.finite.specs.If.{if◌then◌else◌}
+use Rattle.std.specs.Prelude.{if◌then◌else◌}
 use Rattle.model.specs.Demand.{blocking, demand}
 use Rattle.model.specs.Phase.{Choice, Phases}
 use Rattle.model.specs.Tasks.{Tasks}

@@ -5,7 +5,7 @@ use Rattle.std.proofs.Common.{sym, ap, ◌∙◌, arith, length-set, get_or-set_
 use Rattle.std.proofs.Math.Decide.{ℕ_discrete}
 use Rattle.std.proofs.lemmas.List.{set-get_or}
 use Rattle.finite.specs.Finite.{sum_to}
-use Rattle.finite.specs.If.{if◌then◌else◌}
+use Rattle.std.specs.Prelude.{if◌then◌else◌}
 use Rattle.finite.proofs.laws.Sums.{sum_but_at, sum_cong, sum_zero}
 use Rattle.finite.proofs.laws.Tests.{cond_false}
 use Rattle.model.specs.Arrays.{Arrays}

@@ -10,7 +10,7 @@ use Rattle.std.proofs.Math.Nat.{le_antisymm, min-eq_left, min-eq_right, max-eq_l
 use Rattle.std.proofs.Math.ListN.{get_or}
 use Rattle.std.proofs.lemmas.Bool.{lt-leb}
 use Rattle.finite.specs.Finite.{Below}
-use Rattle.finite.specs.If.{if◌then◌else◌}
+use Rattle.std.specs.Prelude.{if◌then◌else◌}
 use Rattle.finite.proofs.laws.Extremes.{min_attained, min_lower}
 use Rattle.finite.proofs.laws.Sums.{sum_cong}
 use Rattle.finite.proofs.laws.Tests.{fails, le_or_lt, ltb_decides, otherwise_true}
