@@ -2,12 +2,12 @@
 // program in papers/.
 #![tactic(auto)]
 
-use std::io::{self, BufWriter, Write};
+use std::io::{self, Write};
 
 // Every case. It is told where the last was cut.
 fn main(rt: HostRuntime) -> io::Result<()> {
     let mut input = rt.stdin();
-    let mut out = BufWriter::new(rt.alloc(), rt.stdout())?;
+    let mut out = rt.stdout();
     let mut buffer = [0u8; 65_536];
     let mut case = cases::first(&mut input, &mut buffer)?;
     while 0 < case.left {

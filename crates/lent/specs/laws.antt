@@ -1,2 +1,2 @@
--- What is proved of the definitions beside this folder.
+-- The words of the inner calls' contracts; what is proved of them stands in proofs/laws/.
 pub mod Running

@@ -5,7 +5,7 @@
 use dispatch::Answer;
 use lent::{Demand, TaskLoad};
 use records::Dispatcher;
-use std::io::{self, BufWriter, Write};
+use std::io::{self, Write};
 
 // A line: the length t and the demand there, or the word that it does not fit.
 fn print_demand<W: Write>(out: &mut W, t: u64, d: Demand) -> io::Result<()> {
@@ -118,7 +118,7 @@ fn print_run<W: Write>(out: &mut W) -> io::Result<()> {
 }
 
 fn main(rt: HostRuntime) -> io::Result<()> {
-    let mut out = BufWriter::new(rt.alloc(), rt.stdout())?;
+    let mut out = rt.stdout();
     print_demands(&mut out)?;
     print_run(&mut out)?;
     out.flush()

@@ -1,4 +1,4 @@
--- What is proved of the definitions beside this folder.
+-- What is proved of the definitions in specs/.
 -- The argument over views: the ranges, a job's ticks and deadlines whoever goes first; then the safety of least time left.
 pub mod View
 pub mod Sound

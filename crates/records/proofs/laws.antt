@@ -1,4 +1,4 @@
--- What is proved of the definitions beside this folder.
+-- What is proved of the definitions in specs/.
 pub mod Fields
 pub mod Held
 pub mod Lent

@@ -5,7 +5,7 @@
 ghost use Rattle.std.specs.Prelude.{◌≡◌, ◌+◌, ◌≤◌, IfOk, length, take, drop};
 
 use show_run::Run;
-use std::io::{self, BufWriter, Read, Write};
+use std::io::{self, Read, Write};
 
 // The bytes from `from` on, `kept` of them, are moved to the front.
 fn moved(buffer: &mut [u8], from: usize, kept: usize)
@@ -83,7 +83,7 @@ fn all_ticks<R: Read, W: Write>(
 // The front of the input starts the run; where it did, its ticks and its end follow.
 fn main(rt: HostRuntime) -> io::Result<()> {
     let mut input = rt.stdin();
-    let mut out = BufWriter::new(rt.alloc(), rt.stdout())?;
+    let mut out = rt.stdout();
     let mut buffer = [0u8; show_run::INPUT_ROOM];
     let have = show::read_full(&mut input, &mut buffer)?;
     let r = show_run::begin(&mut out, &buffer[..have])?;

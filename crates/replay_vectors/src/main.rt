@@ -1,7 +1,7 @@
 // Runs many stored inputs of program `replay`, and prints for each what it prints. The expected output is made by the separate program in papers/.
 #![tactic(auto)]
 
-use std::io::{self, BufWriter, Write};
+use std::io::{self, Write};
 
 // One input, whole.
 fn run<W: Write>(out: &mut W, input: &[u8]) -> io::Result<()> {
@@ -17,7 +17,7 @@ fn run<W: Write>(out: &mut W, input: &[u8]) -> io::Result<()> {
 // Every case. It is told where the last was cut.
 fn main(rt: HostRuntime) -> io::Result<()> {
     let mut input = rt.stdin();
-    let mut out = BufWriter::new(rt.alloc(), rt.stdout())?;
+    let mut out = rt.stdout();
     let mut buffer = [0u8; 65_536];
     let mut case = cases::first(&mut input, &mut buffer)?;
     while 0 < case.left {

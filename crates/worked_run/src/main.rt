@@ -4,7 +4,7 @@
 #![tactic(auto)]
 
 use edf::JudgeOutcome;
-use std::io::{self, BufWriter, Write};
+use std::io::{self, Write};
 
 // A byte as a number, behind a space.
 fn spaced_byte<W: Write>(out: &mut W, byte: u8) -> io::Result<()> {
@@ -33,7 +33,7 @@ fn run<W: Write>(out: &mut W, letter: &[u8], table: &[u8]) -> io::Result<()> {
 
 // The tables by their letters.
 fn main(rt: HostRuntime) -> io::Result<()> {
-    let mut writer = BufWriter::new(rt.alloc(), rt.stdout())?;
+    let mut writer = rt.stdout();
     let out = &mut writer;
     run(out, b"A", b"\x02\x0A\x08\x01\x02\x01\x14\x12\x01\x09\x01")?;
     run(out, b"B", b"\x02\x0A\x05\x01\x02\x01\x14\x12\x01\x09\x01")?;

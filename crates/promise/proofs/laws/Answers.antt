@@ -34,10 +34,10 @@ pub record AnswersAt (S : Tasks) (x : Choice) (flag : Bool) (s : State) (i : ℕ
   pub ended : a.ended ≡ ends_of (outcome S x flag s i)
   pub finished : a.finished ≡ finishes_of (outcome S x flag s i)
 
-pub answer_at : (S : Tasks) (x : Choice) (entered : ℕ → Bool) (flag : Bool) (s : State) (r i : ℕ) → r ≡ suc i
+pub answer_at_lem : (S : Tasks) (x : Choice) (entered : ℕ → Bool) (flag : Bool) (s : State) (r i : ℕ) → r ≡ suc i
     → AnswersAt S x flag s i (answer_by S x entered flag s r)
-answer_at S x entered flag s zero i e = absurd (omega arith)
-answer_at S x entered flag s (suc j) i e =
+answer_at_lem S x entered flag s zero i e = absurd (omega arith)
+answer_at_lem S x entered flag s (suc j) i e =
     subst (λ i. AnswersAt S x flag s i (answer_by S x entered flag s (suc j))) (omega arith) (record { phase = refl; piece = refl; ended = refl; finished = refl })
 
 -- a piece that runs is not set aside

@@ -13,7 +13,7 @@ use Rattle.model.specs.Tasks.{Tasks}
 use Rattle.promise.specs.History.{Place, last_place, next_place, place_before, used_before}
 use Rattle.promise.specs.Promise.{FinishesIn, InOrder}
 use Rattle.promise.specs.Rules.{Answer, State, outcome, stated, work_at}
-use Rattle.promise.proofs.laws.Answers.{AnswersAt, answer_at, answer_lets, answer_pass, answer_ran, pick_running}
+use Rattle.promise.proofs.laws.Answers.{AnswersAt, answer_at_lem, answer_lets, answer_pass, answer_ran, pick_running}
 use Rattle.promise.proofs.laws.Busy.{Stays, pick_busy, work_stays}
 use Rattle.promise.proofs.laws.Entering.{or_false_left}
 use Rattle.promise.specs.laws.Late.{Chooses, LateRequest, ageless, late_answer_at, late_record_at, lets_in_at}
@@ -143,7 +143,7 @@ module _ (S : Tasks) (x : Choice) (ranged : (i : ℕ) → i < S.n → Ranged S x
 
     at : AnswersAt S x (ask t).flag (now t) i (h t)
     unfolding late_answer_at
-    at = answer_at S x _ (ask t).flag (now t) (now t).run i runs_now
+    at = answer_at_lem S x _ (ask t).flag (now t) (now t).run i runs_now
 
     next_run : (h t).ended ≡ false → (before (suc t)).run ≡ suc i
     unfolding late_record_at
