@@ -90,8 +90,8 @@ module _ (S : Tasks) (x : Choice) (may : Startable S x) (d : ℕ → Dispatcher)
   sane : Sane S
   sane = record {
     some_task = may.some_task;
-    D-least = λ i l. (held.table.task i l).deadline_least;
-    D-most = λ i l. (held.table.task i l).deadline_most;
+    D_least = λ i l. (held.table.task i l).deadline_least;
+    D_most = λ i l. (held.table.task i l).deadline_most;
     some_phase = λ i l. (held.table.task i l).phases_least;
     some_work = λ i j l k. (held.table.phase i j l k).work_least;
   }

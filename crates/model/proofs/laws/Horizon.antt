@@ -22,8 +22,8 @@ pub record Horizon (S : Tasks) (H : ℕ) : Type 0 where
   pub multiple : Below S.n (λ i. (k : ℕ) × (H ≡ k * S.T i))
 
 module _ (S : Tasks) (sane : Sane S) where
-  T-positive : Below S.n (λ i. 0 < S.T i)
-  T-positive i l = omega (arith, sane.D-least i l, sane.D-most i l)
+  T_positive : Below S.n (λ i. 0 < S.T i)
+  T_positive i l = omega (arith, sane.D_least i l, sane.D_most i l)
 
   -- ---- between test points nothing changes
 
@@ -37,7 +37,7 @@ module _ (S : Tasks) (sane : Sane S) where
     pub steady_demand : (C : ℕ → ℕ) → demand S C (suc t) ≡ demand S C t
     unfolding demand
     steady_demand C =
-        sum_cong S.n _ _ (λ i l. ap (λ (x : ℕ). x * C i) (jobs_steady (S.T i) (S.D i) t (T-positive i l) (λ k e. between (i, l, (k, e)))))
+        sum_cong S.n _ _ (λ i l. ap (λ (x : ℕ). x * C i) (jobs_steady (S.T i) (S.D i) t (T_positive i l) (λ k e. between (i, l, (k, e)))))
 
     pub steady_blocking : (B : ℕ → ℕ) → blocking S B (suc t) ≤ blocking S B t
     steady_blocking B = blocking_least S B (suc t) (λ i l h. blocking_upper S B t i l (omega arith))
@@ -50,7 +50,7 @@ module _ (S : Tasks) (sane : Sane S) where
   module _ (C B : ℕ → ℕ) where
     -- by the test points up to L, at every length up to L
     pub all_lengths : (L : ℕ) → ((t : ℕ) → t ≤ L → TestPoint S t → Fits S C B t) → (t : ℕ) → t ≤ L → Counted S t → Fits S C B t
-    all_lengths L w zero l c = absurd (not-suc-le-zero (le_trans (sane.D-least c.0 c.1) c.2))
+    all_lengths L w zero l c = absurd (not-suc-le-zero (le_trans (sane.D_least c.0 c.1) c.2))
     all_lengths L w (suc t) l c = go (decided (is_test_decides S sane (suc t))) (all_lengths L w t (omega arith))
       where
         go : TestPoint S (suc t) ⊎ ¬ TestPoint S (suc t) → (Counted S t → Fits S C B t) → Fits S C B (suc t)
@@ -60,13 +60,13 @@ module _ (S : Tasks) (sane : Sane S) where
   -- ---- beyond H
 
   demand_start : (C : ℕ → ℕ) → demand S C 0 ≡ 0
-  demand_start C = demand_early S C 0 (λ c. not-suc-le-zero (le_trans (sane.D-least c.0 c.1) c.2))
+  demand_start C = demand_early S C 0 (λ c. not-suc-le-zero (le_trans (sane.D_least c.0 c.1) c.2))
 
   module _ (H : ℕ) (hz : Horizon S H) where
     whole : Below S.n (λ i. H ≡ H / S.T i * S.T i)
     whole i l =
         let q = hz.multiple i l in
-        let e : H / S.T i ≡ q.0 = rw (q.1, mul-div_cancel q.0 (T-positive i l)) in
+        let e : H / S.T i ≡ q.0 = rw (q.1, mul-div_cancel q.0 (T_positive i l)) in
         rw e q.1
 
     -- what a length of H adds
@@ -80,7 +80,7 @@ module _ (S : Tasks) (sane : Sane S) where
         each : Below S.n (λ i. jobs (S.T i) (S.D i) (t + H) * C i ≡ jobs (S.T i) (S.D i) t * C i + H / S.T i * C i)
         each i l =
             let e : jobs (S.T i) (S.D i) (t + H / S.T i * S.T i) ≡ jobs (S.T i) (S.D i) t + H / S.T i =
-            jobs_shifts (S.T i) (S.D i) t (H / S.T i) (sane.D-least i l) (sane.D-most i l) in
+            jobs_shifts (S.T i) (S.D i) t (H / S.T i) (sane.D_least i l) (sane.D_most i l) in
             let h : jobs (S.T i) (S.D i) (t + H) ≡ jobs (S.T i) (S.D i) t + H / S.T i =
             ap (λ (x : ℕ). jobs (S.T i) (S.D i) (t + x)) (whole i l) ∙ e in
             rw (h, add-mul)
@@ -92,21 +92,21 @@ module _ (S : Tasks) (sane : Sane S) where
         let at_h' : demand S C H ≡ demand S C 0 + share C = rw e at at_h in
         omega (arith, adds_share C t, at_h', demand_start C)
 
-    D-within : Below S.n (λ i. S.D i ≤ H)
-    D-within i l =
+    D_within : Below S.n (λ i. S.D i ≤ H)
+    D_within i l =
         let q = hz.multiple i l in
         let pos : 1 ≤ q.0 = one_of q.0 q.1 in
-        omega (arith, sane.D-most i l, q.1, mul-le-mul_right (S.T i) pos)
+        omega (arith, sane.D_most i l, q.1, mul-le-mul_right (S.T i) pos)
       where
         one_of : (k : ℕ) → H ≡ k * S.T i → 1 ≤ k
         one_of zero e = omega (arith, hz.positive, zero-mul (S.T i))
         one_of (suc k) e = omega arith
 
-    H-counted : Counted S H
-    H-counted = (0, sane.some_task, D-within 0 sane.some_task)
+    H_counted : Counted S H
+    H_counted = (0, sane.some_task, D_within 0 sane.some_task)
 
     blocking_beyond : (B : ℕ → ℕ) (t : ℕ) → H ≤ t → blocking S B t ≤ 0
-    blocking_beyond B t h = blocking_least S B t (λ i l d. absurd (not-suc-le_self t (le_trans d (le_trans (D-within i l) h))))
+    blocking_beyond B t h = blocking_least S B t (λ i l d. absurd (not-suc-le_self t (le_trans d (le_trans (D_within i l) h))))
 
     module _ (C B : ℕ → ℕ) (w : (t : ℕ) → t ≤ H → Counted S t → Fits S C B t) where
       demand_below : (t : ℕ) → t ≤ H → demand S C t ≤ t
@@ -136,7 +136,7 @@ module _ (S : Tasks) (sane : Sane S) where
           go (inl l) = w t l c
           go (inr l) =
               let e : t - H + H ≡ t = omega arith in
-              omega (arith, rw e at (demand_shift C (t - H)), demand_always (t - H), w H (le_refl H) H-counted, blocking_beyond B t (omega arith))
+              omega (arith, rw e at (demand_shift C (t - H)), demand_always (t - H), w H (le_refl H) H_counted, blocking_beyond B t (omega arith))
 
     -- the theorem
     pub horizon : (C B : ℕ → ℕ) → ((t : ℕ) → t ≤ H → TestPoint S t → Fits S C B t) → (t : ℕ) → Counted S t → Fits S C B t

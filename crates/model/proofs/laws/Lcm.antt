@@ -139,7 +139,7 @@ lcm_to_ok (suc n) f p =
 
 pub horizon_lcm : (S : Tasks) → Sane S → IsLcmTo S.n S.T (horizon_of S)
 unfolding horizon_of
-horizon_lcm S sane = lcm_to_ok S.n S.T (λ i l. le_trans (sane.D-least i l) (sane.D-most i l))
+horizon_lcm S sane = lcm_to_ok S.n S.T (λ i l. le_trans (sane.D_least i l) (sane.D_most i l))
 
 pub horizon_is : (S : Tasks) → Sane S → Horizon S (horizon_of S)
 horizon_is S sane = let h = horizon_lcm S sane in record { positive = h.positive; multiple = h.multiple }

@@ -47,15 +47,15 @@ module _ (S : Tasks) (sane : Sane S) where
   of_all : {i : ℕ} → i < suc (S.n - 1) → i < S.n
   of_all l = omega (arith, sane.some_task)
 
-  T-pos : Below S.n (λ i. 0 < S.T i)
-  T-pos i l = omega (arith, sane.D-least i l, sane.D-most i l)
+  T_pos : Below S.n (λ i. 0 < S.T i)
+  T_pos i l = omega (arith, sane.D_least i l, sane.D_most i l)
 
   nearest : (s : ℕ) → Some (suc (S.n - 1)) (λ i. next_test S s ≡ next_deadline (S.T i) (S.D i) s)
   unfolding next_test
   nearest s = min_attained (S.n - 1) _
 
   pub next_test_above : (s : ℕ) → s < next_test S s
-  next_test_above s = let (i, l, e) = nearest s in rw e (next_above (S.T i) (S.D i) s (T-pos i (of_all l)))
+  next_test_above s = let (i, l, e) = nearest s in rw e (next_above (S.T i) (S.D i) s (T_pos i (of_all l)))
 
   pub next_test_is : (s : ℕ) → TestPoint S (next_test S s)
   unfolding next_deadline
@@ -66,7 +66,7 @@ module _ (S : Tasks) (sane : Sane S) where
   unfolding next_test
   next_test_first s t l (i, h, (k, e)) =
       le_trans (min_lower (S.n - 1) (λ i. next_deadline (S.T i) (S.D i) s) i (all_of h))
-      (rw e (next_least (S.T i) (S.D i) s k (T-pos i h) (rw e at l)))
+      (rw e (next_least (S.T i) (S.D i) s k (T_pos i h) (rw e at l)))
 
   -- the count of test points, from one to the next
   points_through : (d s : ℕ) → ((t : ℕ) → s < t → t ≤ s + d → ¬ TestPoint S t) → points S (s + d) ≡ points S s

@@ -37,7 +37,7 @@ test_counted S t (i, l, (k, e)) = (i, l, omega arith)
 no_test_at_zero : (S : Tasks) → Sane S → ¬ TestPoint S 0
 no_test_at_zero S sane p =
     let c = test_counted S 0 p in
-    omega (arith, c.2, sane.D-least c.0 c.1)
+    omega (arith, c.2, sane.D_least c.0 c.1)
 
 pub points_zero : (S : Tasks) → Sane S → points S 0 ≡ 0
 unfolding points sum_to

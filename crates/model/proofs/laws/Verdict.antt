@@ -113,7 +113,7 @@ module _ (S : Tasks) (sane : Sane S) (P : Phases) (laws : Laws S P) where
   pub start_least : LeastBelow S P 1 ones
   start_least = record {
     valid = laws.one_allowed;
-    good = λ t c l. absurd (not-suc-le-zero (le_trans (sane.D-least c.0 c.1) (le_trans c.2 (le_of_suc-le-suc l))));
+    good = λ t c l. absurd (not-suc-le-zero (le_trans (sane.D_least c.0 c.1) (le_trans c.2 (le_of_suc-le-suc l))));
     least = λ y vy wy i j l k. laws.one_least i j l k (y i j) (vy i j l k);
   }
 

@@ -51,7 +51,7 @@ module _ (S : Tasks) (sane : Sane S) (x : Choice) (valid : AllAllowed S (phases_
 
   -- the ranges, whatever the lag and whoever goes first
   pub counts_ranges : (lag : ℕ) → Ranges (terms S x lag)
-  counts_ranges lag = record { timed = sane.D-least; ordered = sane.D-most; costs = costs }
+  counts_ranges lag = record { timed = sane.D_least; ordered = sane.D_most; costs = costs }
 
   enough : (lag : ℕ) → LateWorks S (phases_of S) x lag → Enough (terms S x lag)
   enough lag works = record { ranges = counts_ranges lag; fits = λ t i l d. omega (arith, works t (i, l, d)) }

@@ -80,8 +80,8 @@ unfolding empty_arrays
 sane_a =
     record {
       some_task = omega arith;
-      D-least = both (λ i. 1 ≤ table_a.D i) (omega arith) (omega arith);
-      D-most = both (λ i. table_a.D i ≤ table_a.T i) (omega arith) (omega arith);
+      D_least = both (λ i. 1 ≤ table_a.D i) (omega arith) (omega arith);
+      D_most = both (λ i. table_a.D i ≤ table_a.T i) (omega arith) (omega arith);
       some_phase = both (λ i. 1 ≤ table_a.m i) (omega arith) (omega arith);
       some_work = λ i j l k. both (λ i. Below (table_a.m i) (λ j. 1 ≤ table_a.c i j)) (one (λ j. 1 ≤ table_a.c 0 j) (omega arith)) (one (λ j. 1 ≤ table_a.c 1 j) (omega arith)) i l j k;
     }

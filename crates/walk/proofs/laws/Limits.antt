@@ -13,8 +13,8 @@ use Rattle.walk.specs.Walk.{Walkable}
 pub sane_in : {S : Tasks} → 1 ≤ S.n → InTable S → Sane S
 sane_in some v = record {
   some_task = some;
-  D-least = λ i l. (v.task i l).deadline_least;
-  D-most = λ i l. (v.task i l).deadline_most;
+  D_least = λ i l. (v.task i l).deadline_least;
+  D_most = λ i l. (v.task i l).deadline_most;
   some_phase = λ i l. (v.task i l).phases_least;
   some_work = λ i j l k. (v.phase i j l k).work_least;
 }
