@@ -2,7 +2,8 @@
 """Brings the repository's own definitions, lemmas, fields and constructors to snake case (types and modules keep their camel case).
 
 usage: python3 tools/respell.py        at the top of the repository, once, on the tree that port.py left
-       python3 tools/respell.py names  lists each old name and its new one, and what falls together; changes nothing
+       python3 tools/respell.py names  lists each old name and its new one, and what to look at: 'together', two old names with one new one;
+                                       'taken', a new name that stands somewhere already; changes nothing
 
 A name is turned where it stands as a whole word: in .antt files, in the clauses and comments of .rt files, in must-fail edits and in the
 pages. Names that the check generates (a goal, its fields) keep their hyphens, and so do names of the library.
