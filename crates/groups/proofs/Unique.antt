@@ -2,12 +2,14 @@
 use Prim.Native.Nat.{ℕ}
 use mathlib.Core.Path.{◌≡◌, sym, ap, ◌∙◌}
 use mathlib.Core.List.{List}
+use Rattle.std.specs.Prelude.{Result}
 use Rattle.groups.specs.declared.Number.{Number}
+use Rattle.groups.specs.declared.NumberError.{NumberError}
 use Rattle.groups.specs.declared.NumberWritten.{NumberWritten}
 use Rattle.groups.specs.Number.{number_at}
 use Rattle.groups.specs.Write.{left_by, WritesNumber}
 
-pub read_unique : (s : List ℕ) (at : ℕ) {r r' : Number} → r ≡ number_at s at → r' ≡ number_at s at → r ≡ r'
+pub read_unique : (s : List ℕ) (at : ℕ) {r r' : Result Number NumberError} → r ≡ number_at s at → r' ≡ number_at s at → r ≡ r'
 read_unique s at a b = a ∙ sym b
 
 module _ {before after after' : List ℕ} {at value : ℕ} {r r' : NumberWritten} where
