@@ -7,6 +7,7 @@ use mathlib.Core.Bool.{Bool, true, false}
 use native.Mathlib.Omega.{arith}
 use native.Mathlib.Nat.{add-zero}
 use Rattle.std.specs.Prelude.{if◌then◌else◌}
+use Rattle.table.specs.declared.Reason.{Reason}
 use Rattle.table.specs.declared.Table.{Table}
 use Rattle.table.specs.Parse.{Result, got, away, Parser, and_then, each}
 
@@ -17,7 +18,7 @@ pub record Bound {A B : Type 0} (x : Result A) (f : A → Parser B) (s : List �
   pub first : x ≡ got value mid
   pub second : f value s mid ≡ got b next
 
-pub never : {A : Type 0} {reason place next : ℕ} {a : A} → ◌≡◌ {A = Result A} (away reason place) (got a next) → ⊥
+pub never : {A : Type 0} {reason : Reason} {place next : ℕ} {a : A} → ◌≡◌ {A = Result A} (away reason place) (got a next) → ⊥
 never e = let z : ◌≡◌ {A = ℕ} 0 1 = cc in omega arith
 
 pub bound : {A B : Type 0} (x : Result A) (f : A → Parser B) (s : List ℕ) {b : B} {next : ℕ} → and_then x f s ≡ got b next → Bound x f s b next
@@ -38,7 +39,7 @@ keeps part s last P step (suc left) k t at t' next h p e =
     keeps part s last P step left (k + 1) b.value b.mid t' next (omega arith) (step k t at b.value b.mid (omega arith) p b.first) b.second
 
 -- a test that let the rest go on was not met
-module _ {A : Type 0} (b : Bool) (reason place at next : ℕ) (p : Parser A) (s : List ℕ) {a : A} where
+module _ {A : Type 0} (b : Bool) (reason : Reason) (place at next : ℕ) (p : Parser A) (s : List ℕ) {a : A} where
   pub passed : and_then (if b then away reason place else got tt at) (λ (u : Unit {0}). p) s ≡ got a next → (b ≡ false) × (p s at ≡ got a next)
   passed e = go b e
     where
@@ -46,6 +47,6 @@ module _ {A : Type 0} (b : Bool) (reason place at next : ℕ) (p : Parser A) (s 
       go true e = absurd (never e)
       go false e = (refl, e)
 
-pub not_met : {A : Type 0} (b : Bool) (reason place at : ℕ) (u : A) {next : ℕ} {v : A} → (if b then away reason place else got u at) ≡ got v next → b ≡ false
+pub not_met : {A : Type 0} (b : Bool) (reason : Reason) (place at : ℕ) (u : A) {next : ℕ} {v : A} → (if b then away reason place else got u at) ≡ got v next → b ≡ false
 not_met true reason place at u e = absurd (never e)
 not_met false reason place at u e = refl

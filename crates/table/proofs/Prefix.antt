@@ -11,13 +11,17 @@ use lib.Dec.{leb, ltb, eqb, lit<}
 use lib.ListN.{length, get_or, take}
 use lib.Seq.{length-take-le, get_or-take}
 use Rattle.finite.proofs.laws.Tests.{and_both, le_or_lt}
+use Rattle.std.specs.Prelude as std
 use Rattle.std.specs.Prelude.{if◌then◌else◌}
 use Rattle.model.specs.Ranges.{FromTo, horizon_most, jobs_most, phase_numbers, phases_most, spacing_most, tasks_most}
 use Rattle.groups.specs.declared.Number.{Number}
-use Rattle.groups.specs.declared.Number.TheVariants.{Value, Ends, Malformed}
-use Rattle.groups.specs.Number.{in_front, groups, number_at}
+use Rattle.groups.specs.declared.NumberError.{NumberError}
+use Rattle.groups.specs.declared.NumberError.TheVariants.{Ends, Malformed}
+use Rattle.groups.specs.Number.{found, in_front, groups, number_at}
 use Rattle.model.specs.Tasks.{Tasks}
 use Rattle.model.specs.TestPoints.{horizon_of}
+use Rattle.table.specs.declared.Reason.{Reason}
+use Rattle.table.specs.declared.Reason.TheVariants as reason
 use Rattle.table.specs.declared.Table.{Table}
 use Rattle.table.specs.Parse.{Result, got, away, Parser, and_then, tested, number_in, numbers_in, each, phase, task, numbers, limits, table, nothing_behind, horizon_in_range, empty, with_count, with_task, with_phase}
 use Rattle.table.specs.Sizes.{deciding, number_long, phase_long, table_long, task_long}
@@ -25,19 +29,19 @@ use Rattle.table.specs.TaskModel.{tasks_of, jobs_within}
 use Rattle.table.proofs.Steps.{in_range}
 
 -- a number that was read from p on has no byte more than it needs, and a string that is long enough does not end in it
-abbrev Shape : (longer : Bool) (p : ℕ) → Number → Type 0
-Shape longer p (Value v next) = (k : ℕ) × (next ≡ p + suc k) × ((128 ^ k ≤ v) ⊎ ((k ≡ 0) × (longer ≡ false)))
-Shape longer p Ends = ⊥
-Shape longer p Malformed = Unit {0}
+abbrev Shape : (longer : Bool) (p : ℕ) → std.Result Number NumberError → Type 0
+Shape longer p (std.Ok n) = (k : ℕ) × (n.next ≡ p + suc k) × ((128 ^ k ≤ n.value) ⊎ ((k ≡ 0) × (longer ≡ false)))
+Shape longer p (std.Err Ends) = ⊥
+Shape longer p (std.Err Malformed) = Unit {0}
 
-front : (longer : Bool) (low p : ℕ) (x : Number) → Shape true (p + 1) x → Shape longer p (in_front low x)
-front longer low p (Value v next) (k, e, inl h) =
+front : (longer : Bool) (low p : ℕ) (x : std.Result Number NumberError) → Shape true (p + 1) x → Shape longer p (in_front low x)
+front longer low p (std.Ok n) (k, e, inl h) =
     (suc k, omega arith, inl (rw pow-suc (omega (arith, h))))
-front longer low p (Value v next) (k, e, inr (z, f)) = absurd (true≢false f)
-front longer low p Ends h = h
-front longer low p Malformed h = h
+front longer low p (std.Ok n) (k, e, inr (z, f)) = absurd (true≢false f)
+front longer low p (std.Err Ends) h = h
+front longer low p (std.Err Malformed) h = h
 
-last_byte : (longer : Bool) (p b : ℕ) (z : Bool) → eqb b 0 ≡ z → Shape longer p (if longer && z then Malformed else Value b (p + 1))
+last_byte : (longer : Bool) (p b : ℕ) (z : Bool) → eqb b 0 ≡ z → Shape longer p (if longer && z then std.Err Malformed else found b (p + 1))
 last_byte true p b true e = tt
 last_byte true p b false e = (0, omega arith, inl (omega (arith, positive b (eqb-false b 0 e))))
   where
@@ -52,7 +56,7 @@ shape zero longer s p h = tt
 shape (suc left) longer s p h = rw (lt-leb (length s) p (omega arith)) (go (leb 128 (get_or s p 0)) (shape left true s (p + 1) (omega arith)))
   where
     go : (x : Bool) → Shape true (p + 1) (groups left true s (p + 1))
-        → Shape longer p (if x then in_front (get_or s p 0 - 128) (groups left true s (p + 1)) else if longer && eqb (get_or s p 0) 0 then Malformed else Value (get_or s p 0) (p + 1))
+        → Shape longer p (if x then in_front (get_or s p 0 - 128) (groups left true s (p + 1)) else if longer && eqb (get_or s p 0) 0 then std.Err Malformed else found (get_or s p 0) (p + 1))
     go true ih = front longer (get_or s p 0 - 128) p (groups left true s (p + 1)) ih
     go false ih = last_byte longer p (get_or s p 0) (eqb (get_or s p 0) 0) refl
 
@@ -62,7 +66,7 @@ short [] = true
 short (range ∷ ranges) = ltb range.most (128 ^ number_long) && short ranges
 
 -- so a number below 128 ^ (j + 1) has at most j + 1 bytes
-few_bytes : (j v p next : ℕ) (longer : Bool) → v < 128 ^ suc j → Shape longer p (Value v next) → next ≤ p + suc j
+few_bytes : (j v p next : ℕ) (longer : Bool) → v < 128 ^ suc j → Shape longer p (found v next) → next ≤ p + suc j
 few_bytes j v p next longer h (k, e, inr (z, f)) = omega arith
 few_bytes j v p next longer h (k, e, inl l) = go (le_or_lt k j)
   where
@@ -78,18 +82,18 @@ pub record Alike {A : Type 0} (x y : Result A) (far : ℕ) : Type 0 where
 done_alike : {A : Type 0} (a : A) (next far : ℕ) → next ≤ far → Alike (got a next) (got a next) far
 done_alike {A} a next far h = record { same = refl; near = λ b n e. let z : next ≡ n = cc in omega arith }
 
-away_alike : {A : Type 0} (reason place far : ℕ) → Alike {A = A} (away reason place) (away reason place) far
+away_alike : {A : Type 0} (reason : Reason) (place far : ℕ) → Alike {A = A} (away reason place) (away reason place) far
 away_alike {A} reason place far = record { same = refl; near = λ b n e. let z : ◌≡◌ {A = ℕ} 0 1 = cc in absurd (omega arith) }
 
 further : {A : Type 0} {x y : Result A} {near far : ℕ} → near ≤ far → Alike x y near → Alike x y far
 further h a = record { same = a.same; near = λ b n e. omega (arith, a.near b n e) }
 
-test_alike : (b : Bool) (reason at : ℕ) → Alike {A = Unit {0}} (if b then away reason 0 else got tt at) (if b then away reason 0 else got tt at) at
+test_alike : (b : Bool) (reason : Reason) (at : ℕ) → Alike {A = Unit {0}} (if b then away reason 0 else got tt at) (if b then away reason 0 else got tt at) at
 test_alike true reason at = away_alike reason 0 at
 test_alike false reason at = done_alike tt at at (le_refl at)
 
 -- bytes behind the last phase
-pub bytes_behind : (s : List ℕ) (at : ℕ) → at < length s → nothing_behind s at ≡ away 5 at
+pub bytes_behind : (s : List ℕ) (at : ℕ) → at < length s → nothing_behind s at ≡ away reason.Trailing at
 bytes_behind s at h = rw (lt-ltb at (length s) h)
 
 -- two strings that are at least `size` bytes long and have the same bytes there
@@ -122,16 +126,16 @@ module _ (size : ℕ) (s r : List ℕ) (pre : Prefix size s r) where
   unfolding number_in
   number_alike j least most at small h = rw (sym (groups_alike 8 false at h)) (by (number_at s at) (shape 8 false s at (omega (arith, pre.first_long))))
     where
-      within : (v next : ℕ) (a b : Bool) → ltb most v ≡ b → Shape false at (Value v next)
-          → Alike (if a then away 4 at else if b then away 4 at else got v next) (if a then away 4 at else if b then away 4 at else got v next) (at + suc j)
-      within v next true b e k = away_alike 4 at (at + suc j)
-      within v next false true e k = away_alike 4 at (at + suc j)
+      within : (v next : ℕ) (a b : Bool) → ltb most v ≡ b → Shape false at (found v next)
+          → Alike (if a then away reason.OutOfRange at else if b then away reason.OutOfRange at else got v next) (if a then away reason.OutOfRange at else if b then away reason.OutOfRange at else got v next) (at + suc j)
+      within v next true b e k = away_alike reason.OutOfRange at (at + suc j)
+      within v next false true e k = away_alike reason.OutOfRange at (at + suc j)
       within v next false false e k = done_alike v next (at + suc j) (few_bytes j v at next false (omega (arith, ltb-false most v e)) k)
 
-      by : (x : Number) → Shape false at x → Alike (tested least most x s at) (tested least most x r at) (at + suc j)
-      by (Value v next) k = within v next (ltb v least) (ltb most v) refl k
-      by Ends k = absurd k
-      by Malformed k = away_alike 3 at (at + suc j)
+      by : (x : std.Result Number NumberError) → Shape false at x → Alike (tested least most x s at) (tested least most x r at) (at + suc j)
+      by (std.Ok n) k = within n.value n.next (ltb n.value least) (ltb most n.value) refl k
+      by (std.Err Ends) k = absurd k
+      by (std.Err Malformed) k = away_alike reason.Malformed at (at + suc j)
 
   -- parts of `part` bytes each, one behind the other
   each_alike : (part : ℕ) (p : ℕ → Table → Parser Table)
@@ -183,7 +187,7 @@ module _ (size : ℕ) (s r : List ℕ) (pre : Prefix size s r) where
   tasks_alike count at h a c = further (omega arith) (each_alike task_long task task_alike count 0 (with_count count empty) at (omega arith))
 
   -- both end for one reason
-  stop_alike : {A B : Type 0} (x y : Result A) (f : A → Parser B) (reason place far : ℕ) → x ≡ away reason place → y ≡ away reason place
+  stop_alike : {A B : Type 0} (x y : Result A) (f : A → Parser B) (reason : Reason) (place far : ℕ) → x ≡ away reason place → y ≡ away reason place
       → Alike (and_then x f s) (and_then y f r) far
   stop_alike x y f reason place far p q = rw (p, q) (away_alike reason place far)
 
@@ -193,13 +197,13 @@ module _ (size : ℕ) (s r : List ℕ) (pre : Prefix size s r) where
       then_alike (number_in 1 tasks_most s 0) (number_in 1 tasks_most r 0) _ 1 0 (count_alike h)
       (λ count a e l. then_alike (each task count 0 (with_count count empty) s a) (each task count 0 (with_count count empty) r a) _ table_long 0
       (tasks_alike count a h l (in_range 1 tasks_most s 0 e).1)
-      (λ t b f m. stop_alike (nothing_behind s b) (nothing_behind r b) _ 5 b 0 (bytes_behind s b (omega (arith, pre.first_long))) (bytes_behind r b (omega (arith, pre.second_long)))))
+      (λ t b f m. stop_alike (nothing_behind s b) (nothing_behind r b) _ reason.Trailing b 0 (bytes_behind s b (omega (arith, pre.first_long))) (bytes_behind r b (omega (arith, pre.second_long)))))
 
   -- the limits look at no byte
   limits_alike : (S : Tasks) (at : ℕ) → Alike (limits S s at) (limits S r at) at
   limits_alike S at =
-      then_alike (horizon_in_range S s at) (horizon_in_range S r at) _ at at (test_alike (ltb horizon_most (horizon_of S)) 6 at)
-      (λ u b e l. further l (test_alike (ltb jobs_most (jobs_within S (horizon_of S))) 7 b))
+      then_alike (horizon_in_range S s at) (horizon_in_range S r at) _ at at (test_alike (ltb horizon_most (horizon_of S)) reason.Horizon at)
+      (λ u b e l. further l (test_alike (ltb jobs_most (jobs_within S (horizon_of S))) reason.Jobs b))
 
   pub table_alike : deciding ≤ size → table s 0 ≡ table r 0
   unfolding table

@@ -1,5 +1,5 @@
 -- The limits of a table, by what the horizon's functions answer. Assumes nothing.
-use mathlib.Core.Path.{◌≡◌, refl, ap, sym, ◌∙◌}
+use mathlib.Core.Path.{◌≡◌, refl, ap, ◌∙◌}
 use mathlib.Core.List.{List, []}
 use mathlib.Core.Bool.{Bool, true, false}
 use Prim.Native.Nat.{ℕ, ◌/◌, ◌≤◌, ◌<◌}
@@ -8,30 +8,30 @@ use lib.ListN.{get_or}
 use lib.Dec.{ltb}
 use borrow.Author.Tests.{lt-ltb, le-ltb}
 use Rattle.finite.specs.Finite.{sum_to}
+use Rattle.std.specs.Prelude as std
 use Rattle.std.specs.Prelude.{if◌then◌else◌}
 use Rattle.model.specs.Ranges.{horizon_most, jobs_most}
 use Rattle.model.specs.TestPoints.{lcm_to, horizon_of}
 use Rattle.model.proofs.laws.Lcm.{lcm_to_ok}
 use Rattle.table.specs.declared.Table.{Table}
-use Rattle.table.specs.declared.ReadOutcome.{ReadOutcome}
-use Rattle.table.specs.declared.ReadOutcome.TheVariants.{Read, TurnedAway}
+use Rattle.table.specs.declared.Reason.TheVariants.{Horizon, Jobs}
+use Rattle.table.specs.declared.TurnedAway.{TurnedAway}
 use Rattle.table.specs.declared.Reading.{Reading}
 use Rattle.table.specs.Horizon.{zero_above, Spacings}
-use Rattle.table.specs.Parse.{got, away, Parser, and_then, done, empty, limits, limit_of, outcome_of, reading_of}
-use Rattle.table.specs.Steps.{limited_by}
+use Rattle.table.specs.Parse.{got, away, turned_away, answered, Parser, and_then, done, limits, limit_of, reading_of}
 use Rattle.table.specs.TaskModel.{tasks_of, jobs_within}
 use Rattle.table.proofs.Multiples.{Under, was_above, was_under}
 
 -- the two limits, by what is asked of them
 abbrev both : (a b : Bool) → Parser (Unit {0})
-both a b bytes at = and_then (if a then away 6 0 else got tt at) (λ (u : Unit {0}) (s : List ℕ) (k : ℕ). if b then away 7 0 else got tt k) bytes
+both a b bytes at = and_then (if a then away Horizon 0 else got tt at) (λ (u : Unit {0}) (s : List ℕ) (k : ℕ). if b then away Jobs 0 else got tt k) bytes
 
 -- the least common multiple of a table's spacings
 abbrev spaced : Table → ℕ
 spaced t = lcm_to t.tasks (λ i. get_or t.spacing i 0)
 
 pub limit_far : (t : Table) {h : ℕ} → h ≡ zero_above horizon_most (lcm_to t.tasks (λ i. get_or t.spacing i 0)) → Spacings t.spacing t.tasks → h ≡ 0
-    → limit_of (tasks_of t) ≡ TurnedAway 6 0
+    → limit_of (tasks_of t) ≡ std.Err (turned_away Horizon 0)
 unfolding limit_of horizon_of
 limit_far t {h} is sp z =
     let above = was_above horizon_most (spaced t) h is (lcm_to_ok t.tasks (λ i. get_or t.spacing i 0) sp.least).positive z in
@@ -61,32 +61,25 @@ module _ {t : Table} {h : ℕ} (n : Near t h) where
     within_limit : ltb horizon_most (horizon_of (tasks_of t)) ≡ false
     within_limit = le-ltb horizon_most (horizon_of (tasks_of t)) (omega (arith, horizon_is, horizon_small))
 
-    pub limit_crowded : jobs_most < sum → limit_of (tasks_of t) ≡ TurnedAway 7 0
+    pub limit_crowded : jobs_most < sum → limit_of (tasks_of t) ≡ std.Err (turned_away Jobs 0)
     unfolding limit_of
     limit_crowded many = rw (within_limit, lt-ltb jobs_most (jobs_within (tasks_of t) (horizon_of (tasks_of t))) (omega (arith, jobs_are)))
 
-    pub limit_read : sum ≤ jobs_most → Read h ≡ limit_of (tasks_of t)
+    pub limit_read : sum ≤ jobs_most → std.Ok h ≡ limit_of (tasks_of t)
     unfolding limit_of
-    limit_read few = rw (within_limit, le-ltb jobs_most (jobs_within (tasks_of t) (horizon_of (tasks_of t))) (omega (arith, jobs_are))) (ap Read horizon_is)
+    limit_read few = rw (within_limit, le-ltb jobs_most (jobs_within (tasks_of t) (horizon_of (tasks_of t))) (omega (arith, jobs_are))) (ap std.Ok horizon_is)
 
-module _ (t : Table) where
-  -- a table whose numbers were read, beside what its limits say: no byte is looked at
-  pub limited_reading : (bytes : List ℕ) (at : ℕ) → reading_of (and_then (limits (tasks_of t) bytes at) (λ u. done t) bytes) ≡ limited_by (limit_of (tasks_of t)) t
-  unfolding limit_of limited_by
-  limited_reading bytes at = go (ltb horizon_most (horizon_of (tasks_of t))) (ltb jobs_most (jobs_within (tasks_of t) (horizon_of (tasks_of t))))
-    where
-      go : (a b : Bool) → reading_of (and_then (both a b bytes at) (λ u. done t) bytes) ≡ limited_by (outcome_of (tasks_of t) (both a b [] 0)) t
-      go true b = refl
-      go false true = refl
-      go false false = refl
+-- a table whose numbers were read, with what its limits say
+abbrev pub limited_by : std.Result ℕ TurnedAway → Table → std.Result Reading TurnedAway
+limited_by (std.Ok h) t = std.Ok (record { table = t; horizon = h })
+limited_by (std.Err e) t = std.Err e
 
--- the same, from a limit's outcome
-module _ {o x : ReadOutcome} (is : o ≡ x) (t : Table) where
-  pub limited_read : {h : ℕ} → o ≡ Read h → ◌≡◌ {A = Reading} (record { outcome = Read h; table = t }) (limited_by x t)
-  unfolding limited_by
-  limited_read e = ap (λ (y : ReadOutcome). limited_by y t) (sym e ∙ is)
-
-  pub limited_away : {reason place : ℕ} {u : Table} → o ≡ TurnedAway reason place → u ≡ empty → ◌≡◌ {A = Reading} (record { outcome = TurnedAway reason place; table = u }) (limited_by x t)
-  unfolding limited_by
-  limited_away {reason} {place} e none =
-      ap (λ (y : Table). record { outcome = TurnedAway reason place; table = y }) none ∙ ap (λ (y : ReadOutcome). limited_by y t) (sym e ∙ is)
+-- no byte is looked at
+pub limited_reading : (t : Table) (bytes : List ℕ) (at : ℕ) → reading_of (and_then (limits (tasks_of t) bytes at) (λ u. done t) bytes) ≡ limited_by (limit_of (tasks_of t)) t
+unfolding limit_of
+limited_reading t bytes at = go (ltb horizon_most (horizon_of (tasks_of t))) (ltb jobs_most (jobs_within (tasks_of t) (horizon_of (tasks_of t))))
+  where
+    go : (a b : Bool) → reading_of (and_then (both a b bytes at) (λ u. done t) bytes) ≡ limited_by (answered (λ u next. horizon_of (tasks_of t)) (both a b [] 0)) t
+    go true b = refl
+    go false true = refl
+    go false false = refl

@@ -7,6 +7,7 @@ use Rattle.model.specs.Arrays.{empty_arrays}
 use Rattle.model.specs.TestPoints.{gcd_in, gcd, lcm, lcm_to, horizon_of}
 use Rattle.table.specs.declared.Table.{Table}
 use Rattle.table.specs.Parse.{Result, got, away, number_in, numbers_in, each, phase, task, numbers, table, empty}
+use Rattle.table.specs.Reason.{reason_number}
 use Rattle.table.specs.Sizes.{deciding, table_long}
 use Rattle.table.specs.TaskModel.{jobs_within}
 
@@ -15,7 +16,7 @@ abbrev seen : Result Table → List ℕ
 seen (got t next) =
     next ∷ t.tasks ∷ get_or t.spacing 0 0 ∷ get_or t.deadline 0 0 ∷ get_or t.phases 0 0 ∷ get_or t.work 0 0 ∷ get_or t.cost 0 0
     ∷ get_or t.spacing 1 0 ∷ get_or t.deadline 1 0 ∷ get_or t.phases 1 0 ∷ get_or t.work 8 0 ∷ get_or t.cost 8 0 ∷ []
-seen (away reason place) = reason ∷ place ∷ []
+seen (away reason place) = reason_number reason ∷ place ∷ []
 
 pub record Example : Type 0 where
   pub bytes : List ℕ

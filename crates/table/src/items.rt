@@ -1,187 +1,112 @@
-// The items of a table in bytes, read from left to right: a number, the numbers of a task, and the loops that store them and those of the phases.
-// Every function goes on from a step; from one that turned the table away it gives that back, so that only `found_at` and `end` ask.
-ghost use Rattle.std.specs.Prelude.{◌≡◌, ◌≤◌};
-ghost use Rattle.model.specs.Arrays.{arrays_as, with_phases};
-ghost use Rattle.table.specs.Steps.{EndFrom, HeadFrom, NumberFrom, Ranged, read_of, PhasesFrom, TasksFrom};
+// The items of a table in bytes, read from left to right: a number, a phase, a task, and the loops over phases and tasks, which put what they read into a
+// table. Each goes on from a place of the bytes, and answers the place behind what it read, or why and where they are turned away.
+ghost use Rattle.std.specs.Prelude.{◌≡◌, ◌-◌, ◌≤◌, ◌<◌, IfOk};
+ghost use Rattle.table.specs.Parse.{away_for, each, number_in, phase, task};
+ghost use Rattle.table.specs.Steps.{all_tasks, number_of, read_to};
 
-use crate::Table;
-use groups::Number;
+use crate::{Reason, Table, TurnedAway};
+use groups::{Number, NumberError};
 
-// Where reading stands: reason 0 and the place behind what was read, or the reason for turning the table away and its place.
-#[derive(Clone, Copy)]
-pub struct Step {
-    pub reason: u8,
-    pub place: usize,
-}
-
-// The step behind a number within its range, and the number; 0 where the table is turned away.
-#[derive(Clone, Copy)]
-pub struct NumberRead {
-    pub step: Step,
-    pub value: u64,
-}
-
-// The step behind the numbers of a task, where its phases follow, and the numbers.
-#[derive(Clone, Copy)]
-pub struct HeadRead {
-    pub step: Step,
-    pub spacing: u32,
-    pub deadline: u32,
-    pub phases: u32,
-}
-
-// The step behind the tasks, and their number.
-#[derive(Clone, Copy)]
-pub struct TasksRead {
-    pub step: Step,
-    pub count: usize,
-}
-
-// What is found where a number is due: the number and the place behind it, or the reason and the place for turning the table away. (An enum, and not
-// a step with a number or 0: so the compiler branches where a number is out of range, and does not wait for each test to know the next place.)
-#[derive(Clone, Copy)]
-enum Found {
-    Value(u64, usize),
-    Away(u8, usize),
-}
-
-// A number that stands at `at`, tested for its range: outside it, reason 4.
-fn ranged(at: usize, value: u64, place: usize, least: u64, most: u64) -> Found
-    ensures { Ranged at value place least most (read_of result) }
+// Why, and where, a table is turned away that has no number at `at`.
+fn no_number(bytes: &[u8], at: usize, error: NumberError) -> TurnedAway
+    ensures { result ≡ away_for error bytes.now at }
 {
-    if (value < least) | (most < value) {
-        return Found::Away(4, at);
-    }
-    Found::Value(value, place)
-}
-
-// What is found at a step, where a number from `least` to `most` is due.
-fn found_at(bytes: &[u8], step: Step, least: u64, most: u64) -> Found
-    ensures { NumberFrom bytes.now step least most (read_of result) }
-{
-    let at = step.place;
-    if step.reason != 0 {
-        return Found::Away(step.reason, at);
-    }
-    match groups::read(bytes, at) {
-        Number::Value(value, place) => ranged(at, value, place, least, most),
-        Number::Ends => Found::Away(2, bytes.len()),
-        Number::Malformed => Found::Away(3, at),
+    match error {
+        NumberError::Ends => TurnedAway {
+            reason: Reason::Ends,
+            place: bytes.len(),
+        },
+        NumberError::Malformed => TurnedAway {
+            reason: Reason::Malformed,
+            place: at,
+        },
     }
 }
 
-// The step behind what was found: the place behind a number, or the reason and the place for turning the table away.
-fn step_behind(found: Found) -> Step
-    ensures { result ≡ (read_of found).step }
+// The number from `least` to `most` that is due at `at`.
+fn number(bytes: &[u8], at: usize, least: u64, most: u64) -> Result<Number, TurnedAway>
+    ensures is { result ≡ number_of (number_in least most bytes.now at) }
+    ensures high { IfOk result (λ n. n.value ≤ most) }
 {
-    match found {
-        Found::Value(_, place) => Step { reason: 0, place },
-        Found::Away(reason, place) => Step { reason, place },
-    }
-}
-
-// The number from `least` to `most` that is due at a step. Where there is none, its reason and place are passed on.
-fn number(bytes: &[u8], step: Step, least: u64, most: u64) -> NumberRead
-    ensures { NumberFrom bytes.now step least most result }
-{
-    let found = found_at(bytes, step, least, most);
-    let step = step_behind(found);
-    let Found::Value(value, _) = found else {
-        return NumberRead { step, value: 0 };
+    let found = groups::read(bytes, at).map_err(|error| no_number(bytes, at, error));
+    // (A let .. else, and no `?`: document 01 names this form for this place.)
+    let Ok(number) = found else {
+        return found;
     };
-    NumberRead { step, value }
-}
-
-// The numbers of a task: T, D, the number of phases.
-fn head(bytes: &[u8], step: Step) -> HeadRead
-    ensures { HeadFrom bytes.now step result }
-{
-    let spacing = number(bytes, step, Table::SPACING_LEAST, Table::SPACING_MOST);
-    let deadline = number(bytes, spacing.step, Table::DEADLINE_LEAST, spacing.value);
-    let phases = number(
-        bytes,
-        deadline.step,
-        Table::PHASES_LEAST,
-        Table::PHASES_MOST,
-    );
-    let next = phases.step;
-    HeadRead {
-        step: next,
-        spacing: spacing.value as u32,
-        deadline: deadline.value as u32,
-        phases: phases.value as u32,
+    if (number.value < least) | (most < number.value) {
+        return Err(TurnedAway {
+            reason: Reason::OutOfRange,
+            place: at,
+        });
     }
+    Ok(number)
 }
 
-// Phases, put at the places from `first` up to `last` of the lent arrays. (Where they are turned away, nobody looks at the arrays.)
+// A phase, put at place k of the table.
+fn phase(bytes: &[u8], at: usize, k: usize, table: &mut Table) -> Result<usize, TurnedAway>
+    requires { k < 256 }
+    ensures { phase k table.old bytes.now at ≡ read_to result table.new }
+{
+    let work = number(bytes, at, Table::WORK_LEAST, Table::WORK_MOST)?;
+    let cost = number(bytes, work.next, Table::COST_LEAST, Table::COST_MOST)?;
+    table.work[k] = work.value as u32;
+    table.cost[k] = cost.value as u32;
+    Ok(cost.next)
+}
+
+// Phases, put at the places of the table from `first` up to `last`.
 fn phases(
     bytes: &[u8],
-    from: Step,
+    at: usize,
     first: usize,
     last: usize,
-    works: &mut [u32; 256],
-    costs: &mut [u32; 256],
-) -> Step
+    table: &mut Table,
+) -> Result<usize, TurnedAway>
     requires { last ≤ 256 }
-    ensures { PhasesFrom bytes.now from first last
-        (with_phases works.old costs.old)
-        (with_phases works.new costs.new) result }
+    ensures { each phase (last - first) first table.old bytes.now at ≡ read_to result table.new }
 {
-    let mut step = from;
-    let mut k = first;
-    while k < last {
-        let work = number(bytes, step, Table::WORK_LEAST, Table::WORK_MOST);
-        let cost = number(bytes, work.step, Table::COST_LEAST, Table::COST_MOST);
-        works[k] = work.value as u32;
-        costs[k] = cost.value as u32;
-        step = cost.step;
-        k = k + 1;
+    let mut next = at;
+    for k in first..last {
+        next = phase(bytes, next, k, table)?;
     }
-    step
+    Ok(next)
 }
 
-// The number of tasks and the tasks, put into the lent arrays; the number of a task's phases into `sizes`.
-pub fn tasks(
-    bytes: &[u8],
-    spacings: &mut [u32; 32],
-    deadlines: &mut [u32; 32],
-    sizes: &mut [u32; 32],
-    works: &mut [u32; 256],
-    costs: &mut [u32; 256],
-) -> TasksRead
-    ensures { TasksFrom bytes.now
-        (arrays_as 0 spacings.old deadlines.old sizes.old works.old costs.old)
-        (arrays_as 0 spacings.new deadlines.new sizes.new works.new costs.new) result }
+// Task i, put into the table: T, D, the number of phases, and the phases.
+fn task(bytes: &[u8], at: usize, i: usize, table: &mut Table) -> Result<usize, TurnedAway>
+    requires { i < 32 }
+    ensures { task i table.old bytes.now at ≡ read_to result table.new }
 {
-    let start = Step {
-        reason: 0,
-        place: 0,
-    };
-    let n = number(bytes, start, Table::TASKS_LEAST, Table::TASKS_MOST);
-    let count = n.value as usize;
-    let mut step = n.step;
-    let mut i: usize = 0;
-    while i < count {
-        let h = head(bytes, step);
-        spacings[i] = h.spacing;
-        deadlines[i] = h.deadline;
-        sizes[i] = h.phases;
-        let last = 8 * i + h.phases as usize;
-        step = phases(bytes, h.step, 8 * i, last, works, costs);
-        i = i + 1;
-    }
-    TasksRead { step, count }
+    let spacing = number(bytes, at, Table::SPACING_LEAST, Table::SPACING_MOST)?;
+    let deadline = number(bytes, spacing.next, Table::DEADLINE_LEAST, spacing.value)?;
+    let count = number(
+        bytes,
+        deadline.next,
+        Table::PHASES_LEAST,
+        Table::PHASES_MOST,
+    )?;
+    table.spacing[i] = spacing.value as u32;
+    table.deadline[i] = deadline.value as u32;
+    table.phases[i] = count.value as u32;
+    let first = 8 * i;
+    phases(
+        bytes,
+        count.next,
+        first,
+        first + count.value as usize,
+        table,
+    )
 }
 
-// The end of the table: bytes behind it are reason 5.
-pub fn end(bytes: &[u8], step: Step) -> Step
-    ensures { EndFrom bytes.now step result }
+// The number of tasks and the tasks, put into the table.
+pub fn tasks(bytes: &[u8], table: &mut Table) -> Result<usize, TurnedAway>
+    ensures { all_tasks table.old bytes.now 0 ≡ read_to result table.new }
 {
-    let place = step.place;
-    if step.reason == 0 {
-        if place < bytes.len() {
-            return Step { reason: 5, place };
-        }
+    let count = number(bytes, 0, Table::TASKS_LEAST, Table::TASKS_MOST)?;
+    table.tasks = count.value as usize;
+    let mut next = count.next;
+    for i in 0..table.tasks {
+        next = task(bytes, next, i, table)?;
     }
-    step
+    Ok(next)
 }

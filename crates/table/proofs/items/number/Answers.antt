@@ -1,12 +1,13 @@
--- `number` meets its contract: the step behind what was found, and the number, or 0 where there is none. Assumes nothing.
-use mathlib.Core.Path.{ap, sym}
-use Rattle.table.specs.declared.items.Found.{Found}
-use Rattle.table.specs.Steps.{read_of}
-use Rattle.table.proofs.ItemLaws.{number_of}
+-- `number` meets its contract: the number reader's answer, and the two tests of `tested`. Assumes nothing.
+use Rattle.std.proofs.Common.{rules}
+use Rattle.table.proofs.ItemLaws.{none, outside, inside}
 use Rattle.table.proofs.items.number.Goals as goal
 
-pub returns-in_default : goal.returns-in_default
-returns-in_default c = number_of c.found_at-found.ensures c.step_behind-step.ensures (ap (λ (f : Found). (read_of f).value) (sym c.in_default.is))
+pub returns-in_default-clause-is : goal.returns-in_default-clause-is
+returns-in_default-clause-is c = none _ _ (record { is = c.read.ensures; told = search rules }) c.in_default.is
 
-pub returns : goal.returns
-returns c = number_of c.found_at-found.ensures c.step_behind-step.ensures (ap (λ (f : Found). (read_of f).value) (sym c.in-Value.is))
+pub returns-then-number-least-clause-is : goal.returns-then-number-least-clause-is
+returns-then-number-least-clause-is c = outside _ _ (record { is = c.read.ensures; told = search rules }) c.in-Ok.is c.if-number-least.true
+
+pub returns-clause-is : goal.returns-clause-is
+returns-clause-is c = inside _ _ (record { is = c.read.ensures; told = search rules }) c.in-Ok.is c.if-number-least.false
