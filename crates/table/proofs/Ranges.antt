@@ -9,18 +9,17 @@ use lib.Dec.{ltb}
 use borrow.Author.Tests.{lt-ltb, le-ltb}
 use Rattle.finite.specs.Finite.{sum_to}
 use Rattle.std.specs.Prelude as std
-use Rattle.std.specs.Prelude.{if◌then◌else◌}
+use Rattle.std.specs.Prelude.{if◌then◌else◌, Some, None}
 use Rattle.model.specs.Ranges.{horizon_most, jobs_most}
 use Rattle.model.specs.TestPoints.{lcm_to, horizon_of}
-use Rattle.model.proofs.laws.Lcm.{lcm_to_ok}
-use Rattle.table.specs.declared.Table.{Table}
 use Rattle.table.specs.declared.Reason.TheVariants.{Horizon, Jobs}
+use Rattle.table.specs.declared.Table.{Table}
 use Rattle.table.specs.declared.TurnedAway.{TurnedAway}
 use Rattle.table.specs.declared.Reading.{Reading}
-use Rattle.table.specs.Horizon.{zero_above, Spacings}
+use Rattle.table.specs.Horizon.{none_above}
 use Rattle.table.specs.Parse.{got, away, turned_away, answered, Parser, and_then, done, limits, limit_of, reading_of}
 use Rattle.table.specs.TaskModel.{tasks_of, jobs_within}
-use Rattle.table.proofs.Multiples.{Under, was_above, was_under}
+use Rattle.table.proofs.Multiples.{was_above, was_under}
 
 -- the two limits, by what is asked of them
 abbrev both : (a b : Bool) → Parser (Unit {0})
@@ -30,40 +29,30 @@ both a b bytes at = and_then (if a then away Horizon 0 else got tt at) (λ (u : 
 abbrev spaced : Table → ℕ
 spaced t = lcm_to t.tasks (λ i. get_or t.spacing i 0)
 
-pub limit_far : (t : Table) {h : ℕ} → h ≡ zero_above horizon_most (lcm_to t.tasks (λ i. get_or t.spacing i 0)) → Spacings t.spacing t.tasks → h ≡ 0
-    → limit_of (tasks_of t) ≡ std.Err (turned_away Horizon 0)
+pub limit_far : (t : Table) → None ≡ none_above horizon_most (spaced t) → std.Err (turned_away Horizon 0) ≡ limit_of (tasks_of t)
 unfolding limit_of horizon_of
-limit_far t {h} is sp z =
-    let above = was_above horizon_most (spaced t) h is (lcm_to_ok t.tasks (λ i. get_or t.spacing i 0) sp.least).positive z in
-    rw (lt-ltb horizon_most (spaced t) above)
+limit_far t is = rw (lt-ltb horizon_most (spaced t) (was_above horizon_most (spaced t) is)) refl
 
 -- a table whose horizon h is within its limit
-pub record Near (t : Table) (h : ℕ) : Type 0 where
-  pub is : h ≡ zero_above horizon_most (lcm_to t.tasks (λ i. get_or t.spacing i 0))
-  pub some : h ≡ 0 → ⊥
-
-module _ {t : Table} {h : ℕ} (n : Near t h) where
-  under : Under horizon_most (spaced t) h
-  under = was_under horizon_most (spaced t) h n.is n.some
-
+module _ (t : Table) {h : ℕ} (is : Some h ≡ none_above horizon_most (spaced t)) where
   horizon_is : h ≡ horizon_of (tasks_of t)
   unfolding horizon_of
-  horizon_is = under.same
+  horizon_is = (was_under horizon_most (spaced t) is).0
 
   pub horizon_small : h ≤ horizon_most
-  horizon_small = omega (arith, under.same, under.most)
+  horizon_small = let u = was_under horizon_most (spaced t) is in omega (arith, u.0, u.1)
 
-  module _ {sum : ℕ} (sum_is_lem : sum ≡ sum_to t.tasks (λ i. h / get_or t.spacing i 0)) where
+  module _ {sum : ℕ} (sum_is : sum ≡ sum_to t.tasks (λ i. h / get_or t.spacing i 0)) where
     jobs_are : sum ≡ jobs_within (tasks_of t) (horizon_of (tasks_of t))
     unfolding jobs_within
-    jobs_are = sum_is_lem ∙ ap (λ (k : ℕ). sum_to t.tasks (λ i. k / get_or t.spacing i 0)) horizon_is
+    jobs_are = sum_is ∙ ap (λ (k : ℕ). sum_to t.tasks (λ i. k / get_or t.spacing i 0)) horizon_is
 
     within_limit : ltb horizon_most (horizon_of (tasks_of t)) ≡ false
     within_limit = le-ltb horizon_most (horizon_of (tasks_of t)) (omega (arith, horizon_is, horizon_small))
 
-    pub limit_crowded : jobs_most < sum → limit_of (tasks_of t) ≡ std.Err (turned_away Jobs 0)
+    pub limit_crowded : jobs_most < sum → std.Err (turned_away Jobs 0) ≡ limit_of (tasks_of t)
     unfolding limit_of
-    limit_crowded many = rw (within_limit, lt-ltb jobs_most (jobs_within (tasks_of t) (horizon_of (tasks_of t))) (omega (arith, jobs_are)))
+    limit_crowded many = rw (within_limit, lt-ltb jobs_most (jobs_within (tasks_of t) (horizon_of (tasks_of t))) (omega (arith, jobs_are))) refl
 
     pub limit_read : sum ≤ jobs_most → std.Ok h ≡ limit_of (tasks_of t)
     unfolding limit_of
