@@ -1,5 +1,6 @@
 -- What is proved of the definitions beside this folder.
 pub mod Sums
+pub mod Numbers
 pub mod Task
 pub mod Counts
 pub mod Loops

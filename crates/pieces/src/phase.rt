@@ -5,15 +5,14 @@ ghost use Rattle.model.specs.Phase.{has_room, longest_piece, needed, piece_lengt
 ghost use Rattle.pieces.specs.Bounds.{phase_most};
 ghost use Rattle.pieces.specs.Task.{PhaseFits};
 
-use crate::numbers::{ceil_div, one_if, quotient, remainder, wide};
-
-// The length of a piece, numbered from 0. It is what ℕ's division gives for every number, so that nobody who asks has to know a range.
+// The length of a piece, numbered from 0. It is what ℕ's division gives for every number (by 0, the quotient is 0 and all is left), so that nobody
+// who asks has to know a range.
 pub fn length(work: u32, cost: u32, count: u32, piece: u32) -> u64
     ensures { result ≡ piece_length work cost count piece }
 {
-    let whole = wide(quotient(work, count));
-    let more = one_if(piece < remainder(work, count));
-    whole + more + wide(cost)
+    let whole = work.checked_div(count).unwrap_or(0);
+    let left = work.checked_rem(count).unwrap_or(work);
+    u64::from(whole) + u64::from(piece < left) + u64::from(cost)
 }
 
 // The longest piece.
@@ -21,14 +20,14 @@ pub fn longest(work: u32, cost: u32, count: u32) -> u64
     requires { 0 < count }
     ensures { (result ≡ longest_piece work cost count) × (result ≤ work + cost) }
 {
-    ceil_div(wide(work), wide(count)) + wide(cost)
+    u64::from(work.div_ceil(count)) + u64::from(cost)
 }
 
 // Whether some count makes every piece fit the margin.
 pub fn room(cost: u32, margin: u64) -> bool
     ensures { result ≡ has_room cost margin }
 {
-    wide(cost) < margin
+    u64::from(cost) < margin
 }
 
 // The least count that does.
@@ -36,7 +35,7 @@ pub fn need(work: u32, cost: u32, margin: u64) -> u64
     requires { (has_room cost margin ≡ true) × (margin ≤ horizon_most) }
     ensures { (result ≡ needed work cost margin) × (result ≤ work) }
 {
-    ceil_div(wide(work), margin - wide(cost))
+    u64::from(work).div_ceil(margin - u64::from(cost))
 }
 
 // What the phase brings to its task's budget under a count.
@@ -44,7 +43,7 @@ pub fn brought(work: u32, cost: u32, count: u64) -> u64
     requires { (work ≤ work_most) × (cost ≤ cost_most) × (count ≤ work_most) }
     ensures { (result ≡ work + count * cost) × (result ≤ phase_most) }
 {
-    wide(work) + count * wide(cost)
+    u64::from(work) + count * u64::from(cost)
 }
 
 // What it brings under the least count for a margin.
