@@ -3,8 +3,9 @@
 -- Assumes nothing.
 use Rattle.std.specs.Prelude.{List, [], ℕ}
 use Rattle.model.specs.Arrays.{as_tasks, phases_alone}
-use Rattle.model.specs.Phase.{Choice, Phases, phases_of}
+use Rattle.model.specs.Phase.{Phases, phases_of}
 use Rattle.model.specs.Tasks.{Tasks}
+pub use Rattle.pieces.specs.Task.{needs}
 
 -- numbers of phases, works, switching costs
 abbrev pub bare_tasks : (phases work cost : List ℕ) → Tasks
@@ -13,7 +14,3 @@ bare_tasks phases work cost = as_tasks (phases_alone phases work cost)
 -- the phases in the arrays of 256
 abbrev pub phases_in : (work cost : List ℕ) → Phases
 phases_in work cost = phases_of (bare_tasks [] work cost)
-
--- the choice that gives each phase its least count for a margin
-abbrev pub needs : Phases → (margin : ℕ) → Choice
-needs phases margin i j = phases.need i j margin

@@ -2,9 +2,13 @@
 -- Assumes nothing.
 use Rattle.std.specs.Prelude.{◌≡◌, true, ℕ, ◌≤◌, ◌<◌}
 use Rattle.finite.specs.Finite.{Below}
-use Rattle.model.specs.Phase.{Choice, has_room, phases_of}
+use Rattle.model.specs.Phase.{Choice, Phases, has_room, phases_of}
 use Rattle.model.specs.Ranges.{cost_most, horizon_most, phases_most, tasks_most, work_most}
 use Rattle.model.specs.Tasks.{Tasks}
+
+-- the choice that gives each phase its least count for a margin
+abbrev pub needs : Phases → (margin : ℕ) → Choice
+needs phases margin i j = phases.need i j margin
 
 -- what the arithmetic asks of a phase's work and switching cost, whatever other numbers a phase has
 pub record WorkIn (c q : ℕ) : Type 0 where

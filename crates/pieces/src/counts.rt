@@ -1,93 +1,66 @@
 // The arrays of a judged table: its counts, 256 places, and its longest pieces, 32.
-ghost use Rattle.std.specs.Prelude.{◌≡◌, ◌≤◌, ◌<◌, get_or};
+ghost use Rattle.std.specs.Prelude.{◌≡◌, ◌<◌, get_or, length};
 ghost use Rattle.finite.specs.Finite.{Below, list_to};
 ghost use Rattle.model.specs.Arrays.{phase_at};
-ghost use Rattle.model.specs.Ranges.{work_most};
-ghost use Rattle.pieces.specs.Bounds.{piece_most};
 ghost use Rattle.pieces.specs.Counts.{count_at, longest_at};
-ghost use Rattle.pieces.specs.Bare.{bare_tasks};
 ghost use Rattle.pieces.specs.Task.{InPieces, Roomy};
+ghost use Rattle.table.specs.TaskModel.{tasks_of};
 
-use crate::numbers::{narrow, size};
 use crate::task::{longest_of, need_at};
+use table::Table;
+
+// An array whose places are filled one by one with what f gives for them.
+fn filled<const N: usize, F: Fn(usize) -> u32>(f: F) -> [u32; N]
+    requires { Below N (F.pre f) }
+    ensures long { length result ≡ N }
+    ensures each { Below N (λ place. F.post f place (get_or result place 0)) }
+{
+    let mut all = [0u32; N];
+    for place in 0..N {
+        all[place] = f(place);
+    }
+    all
+}
 
 // The count at a place: the least for its task's margin, and 0 where no phase stands.
-fn count_at<'a>(
-    place: usize,
-    tasks: usize,
-    phases: &'a [u32; 32],
-    work: &'a [u32; 256],
-    cost: &'a [u32; 256],
-    cuts: &'a [u64; 32],
-) -> u64
-    requires { (place < 256) × Below tasks (λ i. Roomy (bare_tasks phases.now work.now cost.now) (get_or cuts.now i 0) i) }
-    ensures { (result ≡ count_at tasks (bare_tasks phases.now work.now cost.now) (λ i. get_or cuts.now i 0) place) × (result ≤ work_most) }
+fn count_at(table: &Table, cuts: &[u64; 32], place: usize) -> u32
+    requires { (place < 256) × Below table.now.tasks (λ i. Roomy (tasks_of table.now) (get_or cuts.now i 0) i) }
+    ensures { result ≡ count_at table.now.tasks (tasks_of table.now) (λ i. get_or cuts.now i 0) place }
 {
     let i = place / 8;
     let j = place % 8;
-    if tasks <= i {
+    if table.tasks <= i {
         return 0;
     }
-    if size(phases[i]) <= j {
+    if table.phases[i] as usize <= j {
         return 0;
     }
-    need_at(i, j, cuts[i], work, cost)
+    need_at(table, i, j, cuts[i]) as u32
 }
 
 // The counts: the least for each task's margin, in a phase's place; unused places are 0.
-pub fn counts<'a>(
-    tasks: usize,
-    phases: &'a [u32; 32],
-    work: &'a [u32; 256],
-    cost: &'a [u32; 256],
-    cuts: &'a [u64; 32],
-) -> [u32; 256]
-    requires { Below tasks (λ i. Roomy (bare_tasks phases.now work.now cost.now) (get_or cuts.now i 0) i) }
-    ensures { result ≡ list_to 256 (count_at tasks (bare_tasks phases.now work.now cost.now) (λ i. get_or cuts.now i 0)) }
+pub fn counts(table: &Table, cuts: &[u64; 32]) -> [u32; 256]
+    requires { Below table.now.tasks (λ i. Roomy (tasks_of table.now) (get_or cuts.now i 0) i) }
+    ensures { result ≡ list_to 256 (count_at table.now.tasks (tasks_of table.now) (λ i. get_or cuts.now i 0)) }
 {
-    let mut all = [0u32; 256];
-    let mut place: usize = 0;
-    while place < 256 {
-        all[place] = narrow(count_at(place, tasks, phases, work, cost, cuts));
-        place += 1;
-    }
-    all
+    filled(|place| count_at(table, cuts, place))
 }
 
 // The longest piece at a task's place, and 0 where there is no task.
-fn longest_at<'a>(
-    i: usize,
-    tasks: usize,
-    phases: &'a [u32; 32],
-    work: &'a [u32; 256],
-    cost: &'a [u32; 256],
-    counts: &'a [u32; 256],
-) -> u64
-    requires { Below tasks (InPieces (bare_tasks phases.now work.now cost.now) (phase_at counts.now)) }
-    ensures { (result ≡ longest_at tasks (bare_tasks phases.now work.now cost.now) (phase_at counts.now) i) × (result ≤ piece_most) }
+fn longest_at(table: &Table, counts: &[u32; 256], i: usize) -> u32
+    requires { Below table.now.tasks (InPieces (tasks_of table.now) (phase_at counts.now)) }
+    ensures { result ≡ longest_at table.now.tasks (tasks_of table.now) (phase_at counts.now) i }
 {
-    if tasks <= i {
+    if table.tasks <= i {
         return 0;
     }
-    longest_of(i, phases, work, cost, counts)
+    longest_of(table, counts, i) as u32
 }
 
 // The longest piece of each task; unused places are 0.
-pub fn longests<'a>(
-    tasks: usize,
-    phases: &'a [u32; 32],
-    work: &'a [u32; 256],
-    cost: &'a [u32; 256],
-    counts: &'a [u32; 256],
-) -> [u32; 32]
-    requires { Below tasks (InPieces (bare_tasks phases.now work.now cost.now) (phase_at counts.now)) }
-    ensures { result ≡ list_to 32 (longest_at tasks (bare_tasks phases.now work.now cost.now) (phase_at counts.now)) }
+pub fn longests(table: &Table, counts: &[u32; 256]) -> [u32; 32]
+    requires { Below table.now.tasks (InPieces (tasks_of table.now) (phase_at counts.now)) }
+    ensures { result ≡ list_to 32 (longest_at table.now.tasks (tasks_of table.now) (phase_at counts.now)) }
 {
-    let mut all = [0u32; 32];
-    let mut i: usize = 0;
-    while i < 32 {
-        all[i] = narrow(longest_at(i, tasks, phases, work, cost, counts));
-        i += 1;
-    }
-    all
+    filled(|i| longest_at(table, counts, i))
 }

@@ -91,6 +91,10 @@ module _ {A : Type 0} where
       (length_list n (λ k. get_or a k d) ∙ sym e)
       (λ i h. get_or_list n (λ k. get_or a k d) i d (omega (arith, length_list n (λ k. get_or a k d))))
 
+  -- a list that has at each of its n places what f gives there
+  pub list_by_place : (n : ℕ) (f : ℕ → A) (a : List A) (d : A) → length a ≡ n → ((k : ℕ) → k < n → get_or a k d ≡ f k) → a ≡ list_to n f
+  list_by_place n f a d e h = sym (list_of n a d e) ∙ list_alike n (λ k. get_or a k d) f h
+
 -- ---- lists one after the other
 
 module _ {A : Type 0} where

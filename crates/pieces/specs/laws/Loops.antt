@@ -4,66 +4,44 @@ use Rattle.std.specs.Prelude.{◌≡◌, ℕ, ◌+◌, ◌*◌, ◌≤◌, ◌<�
 use Rattle.std.proofs.Common.{sym, ◌∙◌, arith}
 use Rattle.std.proofs.Math.Path.{ap}
 use Rattle.finite.specs.Finite.{max_to, sum_to}
-use Rattle.model.specs.Phase.{Choice, brings, phases_of}
+use Rattle.model.specs.Phase.{Choice, brings, budget, phases_of}
 use Rattle.model.specs.Tasks.{Tasks}
 use Rattle.model.specs.Works.{longest}
-use Rattle.model.proofs.laws.Plain.{pieces_of}
 use Rattle.pieces.specs.Bounds.{phase_most, piece_most}
-use Rattle.pieces.specs.Bare.{needs}
-use Rattle.pieces.specs.Task.{InPieces, PhaseFits, Roomy}
+use Rattle.pieces.specs.Task.{InPieces, needs}
 use Rattle.pieces.specs.laws.Sums.{max_more, max_none, sum_more, sum_none}
 
 -- ---- the budget of task i under a margin, over its first j phases
 
-pub record Adding (S : Tasks) (M i many j sum : ℕ) : Type 0 where
-  pub roomy : Roomy S M i
-  pub all : many ≡ S.m i
-  pub so_far : j ≤ many
+pub record Adding (S : Tasks) (M i j sum : ℕ) : Type 0 where
   pub is : sum ≡ sum_to j (brings S (needs (phases_of S) M) i)
   pub most : sum ≤ j * phase_most
 
-pub adding_none : (S : Tasks) (M i many : ℕ) → Roomy S M i → many ≡ S.m i → Adding S M i many 0 0
-adding_none S M i many r e = record { roomy = r; all = e; so_far = omega arith; is = sym (sum_none _); most = omega arith }
+pub adding_none : (S : Tasks) (M i : ℕ) → Adding S M i 0 0
+adding_none S M i = record { is = sym (sum_none _); most = omega arith }
 
-module _ {S : Tasks} {M i many j sum : ℕ} (k : Adding S M i many j sum) where
-  pub adding_fits : j < many → PhaseFits (S.c i j) (S.q i j) M
-  adding_fits l =
-      let here : j < S.m i = omega (arith, k.all) in
-      let p = k.roomy.phase j here in
-      record { room = k.roomy.room j here; low = k.roomy.low; work = p.work_at_most; cost = p.cost_at_most }
+pub adding_more : {S : Tasks} {M i j sum r : ℕ} → Adding S M i j sum → (r ≡ brings S (needs (phases_of S) M) i j) × (r ≤ phase_most) → Adding S M i (j + 1) (sum + r)
+adding_more k e = record { is = rw sum_more (omega (arith, k.is, e.0)); most = omega (arith, k.most, e.1) }
 
-  pub adding_more : {r : ℕ} → (r ≡ brings S (needs (phases_of S) M) i j) × (r ≤ phase_most) → j < many → Adding S M i many (j + 1) (sum + r)
-  adding_more {r} e l =
-      record { roomy = k.roomy; all = k.all; so_far = omega arith; is = rw sum_more (omega (arith, k.is, e.0)); most = omega (arith, k.most, e.1) }
-
-  pub adding_all : many ≤ j → sum ≡ (phases_of S).budget (needs (phases_of S) M) i
-  adding_all le =
-      let done : j ≡ S.m i = omega (arith, k.all, k.so_far) in
-      k.is ∙ ap (λ (n : ℕ). sum_to n (brings S (needs (phases_of S) M) i)) done ∙ sym ((pieces_of S).whole (needs (phases_of S) M) i)
+pub adding_all : {S : Tasks} {M i j sum : ℕ} → Adding S M i j sum → j ≡ S.m i → sum ≡ (phases_of S).budget (needs (phases_of S) M) i
+unfolding budget
+adding_all {S} {M} {i} k e = k.is ∙ ap (λ (n : ℕ). sum_to n (brings S (needs (phases_of S) M) i)) e
 
 -- ---- the longest piece of task i, over its first j phases
 
-pub record Rising (S : Tasks) (x : Choice) (i many j top : ℕ) : Type 0 where
-  pub cut : InPieces S x i
-  pub all : many ≡ S.m i
-  pub so_far : j ≤ many
+pub record Rising (S : Tasks) (x : Choice) (i j top : ℕ) : Type 0 where
   pub is : top ≡ max_to j (λ k. (phases_of S).longest_piece i k (x i k))
   pub most : top ≤ piece_most
 
-pub rising_none : (S : Tasks) (x : Choice) (i many : ℕ) → InPieces S x i → many ≡ S.m i → Rising S x i many 0 0
-rising_none S x i many r e = record { cut = r; all = e; so_far = omega arith; is = sym (max_none _); most = omega arith }
+pub rising_none : (S : Tasks) (x : Choice) (i : ℕ) → Rising S x i 0 0
+rising_none S x i = record { is = sym (max_none _); most = omega arith }
 
-module _ {S : Tasks} {x : Choice} {i many j top : ℕ} (k : Rising S x i many j top) where
-  pub rising_some : j < many → 0 < x i j
-  rising_some l = k.cut.some j (omega (arith, k.all))
+pub rising_more : {S : Tasks} {x : Choice} {i j top r t : ℕ} → InPieces S x i → j < S.m i → Rising S x i j top
+    → (r ≡ (phases_of S).longest_piece i j (x i j)) × (r ≤ S.c i j + S.q i j) → t ≡ max top r → Rising S x i (j + 1) t
+rising_more {j = j} cut l k e et =
+    let h = cut.phase j l in
+    record { is = rw max_more (et ∙ rw (k.is, e.0)); most = omega (arith, k.most, e.1, h.work_at_most, h.cost_at_most) }
 
-  pub rising_more : {r t : ℕ} → (r ≡ (phases_of S).longest_piece i j (x i j)) × (r ≤ S.c i j + S.q i j) → t ≡ max top r → j < many → Rising S x i many (j + 1) t
-  rising_more {r} e et l =
-      let h = k.cut.phase j (omega (arith, k.all)) in
-      record { cut = k.cut; all = k.all; so_far = omega arith; is = rw max_more (et ∙ rw (k.is, e.0)); most = omega (arith, k.most, e.1, h.work_at_most, h.cost_at_most) }
-
-  pub rising_all : many ≤ j → top ≡ longest S (phases_of S) x i
-  unfolding longest
-  rising_all le =
-      let done : j ≡ S.m i = omega (arith, k.all, k.so_far) in
-      k.is ∙ ap (λ (n : ℕ). max_to n (λ k. (phases_of S).longest_piece i k (x i k))) done
+pub rising_all : {S : Tasks} {x : Choice} {i j top : ℕ} → Rising S x i j top → j ≡ S.m i → top ≡ longest S (phases_of S) x i
+unfolding longest
+rising_all {S} {x} {i} k e = k.is ∙ ap (λ (n : ℕ). max_to n (λ k. (phases_of S).longest_piece i k (x i k))) e
