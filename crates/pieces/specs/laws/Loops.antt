@@ -4,11 +4,12 @@ use Rattle.std.specs.Prelude.{◌≡◌, ℕ, ◌+◌, ◌*◌, ◌≤◌, ◌<�
 use Rattle.std.proofs.Common.{sym, ◌∙◌, arith}
 use Rattle.std.proofs.Math.Path.{ap}
 use Rattle.finite.specs.Finite.{max_to, sum_to}
-use Rattle.model.specs.Phase.{Choice, brings, budget, phases_of}
+use Rattle.model.specs.Phase.{Choice, brings, phases_of}
 use Rattle.model.specs.Tasks.{Tasks}
 use Rattle.model.specs.Works.{longest}
+use Rattle.model.proofs.laws.Plain.{pieces_of}
 use Rattle.pieces.specs.Bounds.{phase_most, piece_most}
-use Rattle.pieces.specs.Task.{InPieces, needs}
+use Rattle.pieces.specs.Task.{InPieces, PhaseFits, Roomy, needs}
 use Rattle.pieces.specs.laws.Sums.{max_more, max_none, sum_more, sum_none}
 
 -- ---- the budget of task i under a margin, over its first j phases
@@ -20,12 +21,17 @@ pub record Adding (S : Tasks) (M i j sum : ℕ) : Type 0 where
 pub adding_none : (S : Tasks) (M i : ℕ) → Adding S M i 0 0
 adding_none S M i = record { is = sym (sum_none _); most = omega arith }
 
+pub adding_fits : {S : Tasks} {M i : ℕ} (j : ℕ) → Roomy S M i → j < S.m i → PhaseFits (S.c i j) (S.q i j) M
+adding_fits j r l =
+    let p = r.phase j l in
+    record { room = r.room j l; low = r.low; work = p.work_at_most; cost = p.cost_at_most }
+
 pub adding_more : {S : Tasks} {M i j sum r : ℕ} → Adding S M i j sum → (r ≡ brings S (needs (phases_of S) M) i j) × (r ≤ phase_most) → Adding S M i (j + 1) (sum + r)
 adding_more k e = record { is = rw sum_more (omega (arith, k.is, e.0)); most = omega (arith, k.most, e.1) }
 
 pub adding_all : {S : Tasks} {M i j sum : ℕ} → Adding S M i j sum → j ≡ S.m i → sum ≡ (phases_of S).budget (needs (phases_of S) M) i
-unfolding budget
-adding_all {S} {M} {i} k e = k.is ∙ ap (λ (n : ℕ). sum_to n (brings S (needs (phases_of S) M) i)) e
+adding_all {S} {M} {i} k e =
+    k.is ∙ ap (λ (n : ℕ). sum_to n (brings S (needs (phases_of S) M) i)) e ∙ sym ((pieces_of S).whole (needs (phases_of S) M) i)
 
 -- ---- the longest piece of task i, over its first j phases
 

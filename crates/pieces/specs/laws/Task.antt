@@ -14,7 +14,7 @@ use Rattle.model.specs.Works.{longest}
 use Rattle.model.proofs.laws.Plain.{ceil_least, ceil_most, ceil_pos, pieces_of}
 use Rattle.pieces.specs.Bounds.{budget_most, phase_most, piece_most}
 use Rattle.pieces.specs.Bare.{bare_tasks}
-use Rattle.pieces.specs.Task.{InPieces, Roomy, WorkIn, needs}
+use Rattle.pieces.specs.Task.{InPieces, PhaseFits, Roomy, WorkIn, needs}
 use Rattle.pieces.specs.laws.Sums.{sum_most}
 
 -- ---- a phase
@@ -44,6 +44,16 @@ brought_most c q x hc hq hx = omega (arith, mul-le-mul hx hq)
 pub longest_within : (c q x : ℕ) → 1 ≤ x → longest_piece c q x ≤ c + q
 unfolding longest_piece
 longest_within c q x h = omega (arith, ceil_most c x h)
+
+-- what is asked and answered of numbers that were read
+pub fits_by : {a b c q M : ℕ} → a ≡ c → b ≡ q → PhaseFits c q M → PhaseFits a b M
+fits_by ea eb f = record { room = rw eb f.room; low = f.low; work = omega (arith, f.work); cost = omega (arith, f.cost) }
+
+pub brought_by : {a b c q : ℕ} (M : ℕ) {r : ℕ} → a ≡ c → b ≡ q → (r ≡ a + needed a b M * b) × (r ≤ phase_most) → (r ≡ c + needed c q M * q) × (r ≤ phase_most)
+brought_by M ea eb e = (e.0 ∙ rw (ea, eb), e.1)
+
+pub piece_by : {a b x c q y r : ℕ} → a ≡ c → b ≡ q → x ≡ y → (r ≡ longest_piece a b x) × (r ≤ a + b) → (r ≡ longest_piece c q y) × (r ≤ c + q)
+piece_by ea eb ex e = (e.0 ∙ rw (ea, eb, ex), omega (arith, e.1))
 
 -- ---- a task
 
