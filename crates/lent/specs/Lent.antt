@@ -1,10 +1,9 @@
 -- DEFINITIONS. A lent slice of task structs as tasks of the model, and what the call over it answers.
 -- Assumes nothing.
-use Rattle.std.specs.Prelude.{◌≡◌, true, false, List, ℕ, ◌≤◌, ◌<◌, ◌^◌, length, get_or}
+use Rattle.std.specs.Prelude.{◌≡◌, Option, Some, None, List, ℕ, ◌≤◌, ◌<◌, ◌^◌, length, get_or}
 use Rattle.model.specs.Tasks.{Tasks, without_phases}
 use Rattle.model.specs.Demand.{demand}
 use Rattle.lent.specs.declared.TaskLoad.{TaskLoad}
-use Rattle.lent.specs.declared.Demand.{Demand}
 
 -- task i of a slice; past its end, where demand never looks, a task of zeros
 abbrev pub task_at : List TaskLoad → ℕ → TaskLoad
@@ -19,8 +18,8 @@ abbrev pub demand_lent : List TaskLoad → ℕ → ℕ
 demand_lent tasks t = demand (tasks_lent tasks) (λ i. (task_at tasks i).budget) t
 
 -- What the call answers, for every slice and every t.
-pub record Sums (tasks : List TaskLoad) (t : ℕ) (r : Demand) : Type 0 where
+pub record Sums (tasks : List TaskLoad) (t : ℕ) (r : Option ℕ) : Type 0 where
   -- A demand below 2^64 is the sum answered.
-  pub within : demand_lent tasks t < 2 ^ 64 → r ≡ record { fits = true; sum = demand_lent tasks t }
-  -- Of any other the answer says that it does not fit, with 0 for the sum.
-  pub past : 2 ^ 64 ≤ demand_lent tasks t → r ≡ record { fits = false; sum = 0 }
+  pub within : demand_lent tasks t < 2 ^ 64 → r ≡ Some (demand_lent tasks t)
+  -- Any other does not fit, and none is answered.
+  pub past : 2 ^ 64 ≤ demand_lent tasks t → r ≡ None

@@ -1,11 +1,11 @@
 // The thin calls over references: the demand at t of a lent slice of task structs, and a lent record moved forward by a tick.
-// Each takes a struct out of the reference, passes it by value, and puts back what it is given.
+// The tick takes the record out of the reference, passes it by value, and puts back what it is given.
 #![tactic(auto)]
 
-ghost use Rattle.std.specs.Prelude.{◌≡◌, ◌+◌, ◌*◌, ◌/◌};
+ghost use Rattle.std.specs.Prelude.{◌≡◌};
 ghost use Rattle.dispatch.specs.Tick.{Ticks};
 ghost use Rattle.lent.specs.Lent.{Sums};
-ghost use Rattle.lent.specs.laws.Running.{told, plus, term_of};
+ghost use Rattle.lent.specs.laws.Running.{told, term_of};
 
 use dispatch::{Answer, Ticked};
 use records::Dispatcher;
@@ -19,76 +19,34 @@ pub struct TaskLoad {
     pub budget: u64,
 }
 
-// A demand that fits 64 bits, or the word that it does not, with 0 for the sum.
-#[repr(C)]
-#[derive(Clone, Copy)]
-pub struct Demand {
-    pub fits: bool,
-    pub sum: u64,
-}
-
-// How often the divisor goes into the number: 0 where the divisor is 0.
-fn whole_times(number: u64, divisor: u64) -> u64
-    ensures { result ≡ number / divisor }
-{
-    if divisor == 0 {
-        return 0;
-    }
-    number / divisor
-}
-
-// The sum with the budget added once and then `more` times.
-fn add_times(sum: u64, more: u64, budget: u64) -> Demand
-    ensures { result ≡ told (sum + (more + 1) * budget) }
-{
-    if budget == 0 {
-        return Demand { fits: true, sum };
-    }
-    let room = 18446744073709551615 - sum;
-    if room / budget <= more {
-        return Demand {
-            fits: false,
-            sum: 0,
-        };
-    }
-    Demand {
-        fits: true,
-        sum: sum + (more + 1) * budget,
+impl TaskLoad {
+    // What this task demands at t, where that is below 2^64: its budget for the first job, and again for each further one.
+    // A spacing of 0 gives no further one.
+    fn demand(&self, t: u64) -> Option<u64>
+        ensures { result ≡ told (term_of t self.now) }
+    {
+        if t < self.deadline {
+            return Some(0);
+        }
+        let more = (t - self.deadline).checked_div(self.spacing).unwrap_or(0);
+        let further = more.checked_mul(self.budget)?;
+        further.checked_add(self.budget)
     }
 }
 
-// The demand of the tasks so far, with one task's added. A demand that no longer fits stays so.
-fn with_task(total: Demand, task: TaskLoad, t: u64) -> Demand
-    ensures { result ≡ plus total (term_of t task) }
-{
-    if !total.fits {
-        return total;
-    }
-    if t < task.deadline {
-        return total;
-    }
-    add_times(
-        total.sum,
-        whole_times(t - task.deadline, task.spacing),
-        task.budget,
-    )
-}
-
-// The demand at t of all tasks of the slice.
-pub fn demand_at(tasks: &[TaskLoad], t: u64) -> Demand
+// The demand at t of all tasks of the slice, where it is below 2^64.
+pub fn demand_at(tasks: &[TaskLoad], t: u64) -> Option<u64>
     ensures { Sums tasks.now t result }
 {
-    let mut sum = Demand { fits: true, sum: 0 };
-    let mut i: usize = 0;
-    while i < tasks.len() {
-        sum = with_task(sum, tasks[i], t);
-        i = i + 1;
+    let mut sum = 0u64;
+    for task in tasks {
+        sum = sum.checked_add(task.demand(t)?)?;
     }
-    sum
+    Some(sum)
 }
 
 // The same of an array by value: whoever calls it makes no reference to a struct.
-pub fn demand_of(tasks: [TaskLoad; 32], t: u64) -> Demand
+pub fn demand_of(tasks: [TaskLoad; 32], t: u64) -> Option<u64>
     ensures { Sums tasks t result }
 {
     demand_at(&tasks, t)

@@ -3,16 +3,15 @@
 #![tactic(auto)]
 
 use dispatch::Answer;
-use lent::{Demand, TaskLoad};
+use lent::TaskLoad;
 use records::Dispatcher;
 use std::io::{self, Write};
 
 // A line: the length t and the demand there, or the word that it does not fit.
-fn print_demand<W: Write>(out: &mut W, t: u64, d: Demand) -> io::Result<()> {
-    if d.fits {
-        writeln!(out, "{t} {}", d.sum)
-    } else {
-        writeln!(out, "{t} does not fit")
+fn print_demand<W: Write>(out: &mut W, t: u64, demand: Option<u64>) -> io::Result<()> {
+    match demand {
+        Some(sum) => writeln!(out, "{t} {sum}"),
+        None => writeln!(out, "{t} does not fit"),
     }
 }
 
@@ -40,16 +39,14 @@ fn table_a() -> [TaskLoad; 32] {
 // The demands of table A, then those at the edge of 64 bits.
 fn print_demands<W: Write>(out: &mut W) -> io::Result<()> {
     let mut tasks = table_a();
-    print_demand(out, 7, lent::demand_of(tasks, 7))?;
-    print_demand(out, 8, lent::demand_of(tasks, 8))?;
-    print_demand(out, 17, lent::demand_of(tasks, 17))?;
-    print_demand(out, 18, lent::demand_of(tasks, 18))?;
-    print_demand(out, 20, lent::demand_of(tasks, 20))?;
+    for t in [7, 8, 17, 18, 20] {
+        print_demand(out, t, lent::demand_of(tasks, t))?;
+    }
     // One job of the largest budget fits; with one tick more, or with a second job, it does not.
     tasks[0] = TaskLoad {
         spacing: 10,
         deadline: 8,
-        budget: 18446744073709551615,
+        budget: u64::MAX,
     };
     print_demand(out, 17, lent::demand_of(tasks, 17))?;
     print_demand(out, 18, lent::demand_of(tasks, 18))?;
@@ -84,13 +81,11 @@ fn ready_a() -> Dispatcher {
 
 // Both tasks ask in tick 0; task 1 asks again in tick 9, too early, and in tick 10.
 fn asked(tick: u64) -> u32 {
-    if tick == 0 {
-        return 3;
+    match tick {
+        0 => 3,
+        9 | 10 => 1,
+        _ => 0,
     }
-    if tick == 9 || tick == 10 {
-        return 1;
-    }
-    0
 }
 
 // A line: the tick, the masks let in and turned away, the task that ran with its phase and piece, and whether its job finished.

@@ -1,19 +1,38 @@
-use Rattle.std.proofs.Common.{◌≡◌, length, ap, sym, ◌∙◌, subst, arith}
-use native.Mathlib.Nat.{le_antisymm}
+use Rattle.std.proofs.Common.{◌≡◌, ◌+◌, ◌<◌, ℕ, List, Option, Some, None, length, ap, sym, ◌∙◌, subst, arith}
+use Rattle.lent.specs.declared.TaskLoad.{TaskLoad}
 use Rattle.lent.specs.Lent.{Sums, task_at}
-use Rattle.lent.specs.declared.Demand.{Demand}
 use Rattle.lent.specs.laws.Running.{told, plus, term_of, up_to}
-use Rattle.lent.proofs.laws.Running.{up_none, up_next, up_sums}
+use Rattle.lent.proofs.laws.Running.{told_past, told_some, told_none, checked_told, plus_fits, up_none, up_next, up_past, up_sums}
 use Rattle.lent.proofs.demand_at.Goals as goal
 
-pub loop-i-init : goal.loop-i-init
-loop-i-init c = (sym (up_none _ _), omega arith)
+-- the sum so far and a task's term answer for one task more
+one_more : (tasks : List TaskLoad) (t i sum : ℕ) → Some sum ≡ told (up_to tasks t i) → told (sum + term_of t (task_at tasks i)) ≡ told (up_to tasks t (i + 1))
+one_more tasks t i sum e =
+    sym (plus_fits sum (term_of t (task_at tasks i))) ∙ ap (λ d. plus d (term_of t (task_at tasks i))) e ∙ up_next tasks t i
 
-pub loop-i-preserved : goal.loop-i-preserved
-loop-i-preserved c =
-    (c.with_task-sum.ensures ∙ ap (λ (d : Demand). plus d (term_of c.args.t (task_at c.args.tasks.now c.loop-i.i))) c.loop-i.invariant.0 ∙ up_next _ _ _, omega arith)
+-- no answer for the tasks so far is no answer for all
+none_of_all : (tasks : List TaskLoad) (t i : ℕ) (r : Option ℕ) → i < length tasks → r ≡ None → told (up_to tasks t (i + 1)) ≡ None → Sums tasks t r
+none_of_all tasks t i r within e none = subst (Sums tasks t) (up_past tasks t (i + 1) (omega arith) none ∙ sym e) (up_sums tasks t)
+
+pub loop-task-init : goal.loop-task-init
+loop-task-init c = sym (up_none _ _)
+
+pub returns-in_err-demand : goal.returns-in_err-demand
+returns-in_err-demand c =
+    let past = told_none _ (sym c.in_err-demand.ensures) in
+    none_of_all _ _ _ _ (omega arith) c.from_residual.ensures (sym (one_more _ _ _ _ c.loop-task.invariant) ∙ told_past _ (omega (arith, past)))
+
+pub returns-in_err-sum : goal.returns-in_err-sum
+returns-in_err-sum c =
+    let term = told_some _ _ (sym c.in_ok-demand.ensures) in
+    none_of_all _ _ _ _ (omega arith) c.from_residual-in_err-sum.ensures (sym (one_more _ _ _ _ c.loop-task.invariant) ∙ told_past _ (omega (arith, c.in_err-sum.ensures)))
+
+pub loop-task-preserved : goal.loop-task-preserved
+loop-task-preserved c =
+    let term = told_some _ _ (sym c.in_ok-demand.ensures) in
+    sym c.in_ok-sum.was ∙ checked_told _ _ c.checked_add.ensures ∙ ap (λ k. told (c.loop-task.sum + k)) (sym term) ∙ one_more _ _ _ _ c.loop-task.invariant
 
 pub returns : goal.returns
 returns c =
-    let whole : c.loop-i.i ≡ length c.args.tasks.now = le_antisymm c.loop-i.invariant.1 c.loop-i-test.false in
-    subst (Sums c.args.tasks.now c.args.t) (sym (c.loop-i.invariant.0 ∙ ap (λ n. told (up_to c.args.tasks.now c.args.t n)) whole)) (up_sums _ _)
+    let whole : c.loop-task.task-index ≡ length c.args.tasks.now = omega arith in
+    subst (Sums c.args.tasks.now c.args.t) (sym (c.loop-task.invariant ∙ ap (λ n. told (up_to c.args.tasks.now c.args.t n)) whole)) (up_sums _ _)

@@ -1,19 +1,19 @@
 -- The demand of a slice as a running answer, one task after another: the words of the inner calls' contracts.
 -- Assumes nothing.
-use Rattle.std.specs.Prelude.{true, false, cond, List, ℕ, ◌+◌, ◌*◌, ◌^◌, ltb}
+use Rattle.std.specs.Prelude.{if◌then◌else◌, Option, Some, None, List, ℕ, ◌+◌, ◌*◌, ◌^◌, nat_lt}
 use Rattle.finite.specs.Finite.{sum_to}
 use Rattle.model.specs.Demand.{jobs}
 use Rattle.lent.specs.declared.TaskLoad.{TaskLoad}
-use Rattle.lent.specs.declared.Demand.{Demand}
 use Rattle.lent.specs.Lent.{task_at}
 
--- what is answered of a number: itself where it is below 2^64
-unfoldable pub told : ℕ → Demand
-told k = cond (ltb k (2 ^ 64)) (record { fits = true; sum = k }) (record { fits = false; sum = 0 })
+-- what is answered of a number: itself where it is below 2^64, else none
+unfoldable pub told : ℕ → Option ℕ
+told k = if nat_lt k (2 ^ 64) then Some k else None
 
--- an answer with a number added; one that does not fit stays so
-unfoldable pub plus : Demand → ℕ → Demand
-plus d k = cond d.fits (told (d.sum + k)) d
+-- an answer with a number added; where there is none it stays so
+unfoldable pub plus : Option ℕ → ℕ → Option ℕ
+plus None k = None
+plus (Some sum) k = told (sum + k)
 
 -- what one task demands
 unfoldable pub term_of : ℕ → TaskLoad → ℕ
