@@ -3,7 +3,7 @@
 
 ghost use Rattle.std.specs.Prelude.{◌≡◌};
 ghost use Rattle.dispatch.specs.Tick.{Ticks};
-ghost use Rattle.firmware.specs.Interface.{JudgesInC, judge_outcome_of, StartsInC, start_outcome_of, unrefused};
+ghost use Rattle.firmware.specs.Interface.{JudgesInC, judge_outcome_of, StartsInC, start_outcome_of};
 
 use dispatch::Answer;
 use records::Dispatcher;
@@ -18,20 +18,22 @@ pub struct Outcome {
 }
 
 // The enum as C has it.
-fn judge_outcome_of(outcome: edf::JudgeOutcome) -> Outcome
-    ensures { result ≡ judge_outcome_of outcome }
-{
-    match outcome {
-        edf::JudgeOutcome::Answered(length) => Outcome {
-            reason: 0,
-            place: 0,
-            length: length as u64,
-        },
-        edf::JudgeOutcome::TurnedAway(reason, place) => Outcome {
-            reason: reason as u32,
-            place: place as u64,
-            length: 0,
-        },
+impl From<edf::JudgeOutcome> for Outcome {
+    ghost from_gives = { λ outcome in_c. in_c ≡ judge_outcome_of outcome };
+
+    fn from(outcome: edf::JudgeOutcome) -> Outcome {
+        match outcome {
+            edf::JudgeOutcome::Answered(length) => Outcome {
+                reason: 0,
+                place: 0,
+                length: length as u64,
+            },
+            edf::JudgeOutcome::TurnedAway(reason, place) => Outcome {
+                reason: u32::from(reason),
+                place: place as u64,
+                length: 0,
+            },
+        }
     }
 }
 
@@ -40,7 +42,7 @@ fn judge_outcome_of(outcome: edf::JudgeOutcome) -> Outcome
 pub extern "C" fn clinkerbell_judge(table: &[u8], answer: &mut [u8]) -> Outcome
     ensures { JudgesInC table.now answer.old answer.new result }
 {
-    judge_outcome_of(edf::judge(table, answer))
+    Outcome::from(edf::judge(table, answer))
 }
 
 // What `clinkerbell_start` returns: 0 ready, with the record before its first tick; 1 refused, with the witness, the demand there, the points
@@ -59,48 +61,40 @@ pub struct StartOutcome {
     pub dispatcher: Dispatcher,
 }
 
-// A start with no verdict's numbers.
-fn no_verdict(how: u32, reason: u32, place: u64, dispatcher: Dispatcher) -> StartOutcome
-    ensures { result ≡ unrefused how reason place dispatcher }
-{
-    StartOutcome {
-        how,
-        reason,
-        place,
-        witness: 0,
-        demand: 0,
-        points: 0,
-        task: 0,
-        phase: 0,
-        dispatcher,
-    }
-}
-
 // The enum beside the record, as C has them.
-fn start_outcome_of(started: start::Started) -> StartOutcome
-    ensures { result ≡ start_outcome_of started.how started.dispatcher }
-{
-    let how = started.how;
-    let dispatcher = started.dispatcher;
-    match how {
-        start::How::Ready => no_verdict(0, 0, 0, dispatcher),
-        start::How::Refused(witness, demand, points, task, phase) => StartOutcome {
-            how: 1,
+impl From<start::Started> for StartOutcome {
+    ghost from_gives = { λ started in_c. in_c ≡ start_outcome_of started.how started.dispatcher };
+
+    fn from(started: start::Started) -> StartOutcome {
+        let ready = StartOutcome {
+            how: 0,
             reason: 0,
             place: 0,
-            witness,
-            demand,
-            points,
-            task,
-            phase,
-            dispatcher,
-        },
-        start::How::TurnedAway(reason, place) => no_verdict(
-            2,
-            reason as u32,
-            place as u64,
-            dispatcher,
-        ),
+            witness: 0,
+            demand: 0,
+            points: 0,
+            task: 0,
+            phase: 0,
+            dispatcher: started.dispatcher,
+        };
+        match started.how {
+            start::How::Ready => ready,
+            start::How::Refused(witness, demand, points, task, phase) => StartOutcome {
+                how: 1,
+                witness,
+                demand,
+                points,
+                task,
+                phase,
+                ..ready
+            },
+            start::How::TurnedAway(reason, place) => StartOutcome {
+                how: 2,
+                reason: u32::from(reason),
+                place: place as u64,
+                ..ready
+            },
+        }
     }
 }
 
@@ -109,7 +103,7 @@ fn start_outcome_of(started: start::Started) -> StartOutcome
 pub extern "C" fn clinkerbell_start(table: &[u8]) -> StartOutcome
     ensures { StartsInC table.now result }
 {
-    start_outcome_of(start::start(table))
+    StartOutcome::from(start::start(table))
 }
 
 // Moves the caller's own record forward by a tick.
