@@ -7,6 +7,7 @@ use Rattle.std.specs.Prelude.{if◌then◌else◌}
 use Rattle.model.specs.Ranges.{horizon_most, spacing_most, tasks_most}
 use Rattle.walk.specs.Masks.{BitPut}
 use Rattle.finite.specs.Masks.{bit}
+use Rattle.walk.specs.declared.deadlines.Moved.{Moved}
 
 -- what a next deadline may be while points up to the horizon are taken
 abbrev pub next_most : ℕ
@@ -46,11 +47,11 @@ pub record DueAt (n t : ℕ) (next : List ℕ) (mask : ℕ) : Type 0 where
   pub beyond : (i : ℕ) → n ≤ i → bit mask i ≡ false
 
 -- task i is passed: its next deadline after t, and with it the tasks that were due and the soonest deadline of those passed
-pub record MovesOn (i t spacing : ℕ) (next next' : List ℕ) (due due' soonest soonest' : ℕ) : Type 0 where
+pub record MovesOn (i t spacing : ℕ) (next next' : List ℕ) (before after : Moved) : Type 0 where
   pub moved : next' ≡ set next i (next_of spacing t (get_or next i 0))
-  pub marked : BitPut i (eqb (get_or next i 0) t) due due'
-  pub small : due' < 2 ^ (i + 1)
-  pub least : soonest' ≡ min soonest (next_of spacing t (get_or next i 0))
+  pub marked : BitPut i (eqb (get_or next i 0) t) before.due after.due
+  pub small : after.due < 2 ^ (i + 1)
+  pub least : after.soonest ≡ min before.soonest (next_of spacing t (get_or next i 0))
 
 -- what is asked before the point t is passed
 pub record BeforePass (n t : ℕ) (spacing next : List ℕ) : Type 0 where
@@ -62,6 +63,6 @@ pub record BeforePass (n t : ℕ) (spacing next : List ℕ) : Type 0 where
   pub near : Below n (λ i. get_or next i 0 ≤ next_most)
 
 -- it is passed: the next deadlines after it, who was due, and the next point
-pub record PointPassed (n t : ℕ) (spacing next next' : List ℕ) (mask soonest : ℕ) : Type 0 where
-  pub moved : DeadlinesMoved n t spacing next next' soonest
-  pub due : DueAt n t next mask
+pub record PointPassed (n t : ℕ) (spacing next next' : List ℕ) (passed : Moved) : Type 0 where
+  pub moved : DeadlinesMoved n t spacing next next' passed.soonest
+  pub due : DueAt n t next passed.due

@@ -3,8 +3,6 @@ ghost use Rattle.std.specs.Prelude.{true, ◌+◌, ◌^◌, ◌<◌};
 ghost use Rattle.model.specs.Ranges.{tasks_most};
 ghost use Rattle.walk.specs.Masks.{BitPut, FirstOf, OthersOf};
 
-use pieces::numbers::size;
-
 // The mask and task i, which comes after its tasks.
 pub fn mark(mask: u32, i: usize) -> u32
     requires { (i < tasks_most) × (mask < 2 ^ i) }
@@ -18,7 +16,7 @@ pub fn first_of(mask: u32) -> usize
     requires { 0 < mask }
     ensures { FirstOf mask result }
 {
-    size(u32::trailing_zeros(mask))
+    mask.trailing_zeros() as usize
 }
 
 // Its other tasks.

@@ -1,124 +1,72 @@
 // Whether the walk stops at a test point: the demand is above it, or a phase that blocks there has no room in the margin.
-ghost use Rattle.std.specs.Prelude.{[], false, ◌≡◌, ◌+◌, ◌-◌, ◌≤◌, ◌<◌, get_or};
+ghost use Rattle.std.specs.Prelude.{◌≤◌, ◌<◌, get_or};
 ghost use Rattle.finite.specs.Finite.{Below};
-ghost use Rattle.model.specs.Ranges.{phases_most};
-ghost use Rattle.pieces.specs.Bare.{phases_in};
-ghost use Rattle.walk.specs.Stuck.{BeforeStop, FirstWhere, PointJudged, Stuck};
-ghost use Rattle.model.specs.Arrays.{arrays_as};
+ghost use Rattle.model.specs.Ranges.{phases_most, tasks_most};
+ghost use Rattle.model.specs.Phase.{phases_of};
+ghost use Rattle.table.specs.TaskModel.{arrays_of, tasks_of};
+ghost use Rattle.walk.specs.Stuck.{BeforeStop, FirstFailing, FirstWhere, PointJudged, Stuck};
 
-use pieces::numbers::{size, wide};
 use pieces::task::room_at;
+use table::Table;
 
-// The first phase of task i that has no room in the margin, or the number of its phases where there is none.
-fn lacking<'a>(
-    i: usize,
-    margin: u64,
-    phases: &'a [u32; 32],
-    work: &'a [u32; 256],
-    cost: &'a [u32; 256],
-) -> usize
-    requires { (i < 32) × (get_or phases.now i 0 ≤ phases_most) }
-    ensures { FirstWhere (get_or phases.now i 0) (λ j. (phases_in work.now cost.now).room i j margin ≡ false) result }
+// The first phase of task i that has no room in the margin.
+fn lacking(table: &Table, i: usize, margin: u64) -> Option<usize>
+    requires { (i < tasks_most) × (get_or table.now.phases i 0 ≤ phases_most) }
+    ensures { FirstFailing (get_or table.now.phases i 0) (λ j. (phases_of (tasks_of table.now)).room i j margin) result }
 {
-    let many = size(phases[i]);
-    let mut j: usize = 0;
-    while j < many {
-        if room_at(i, j, margin, work, cost) {
-            j += 1;
-        } else {
-            return j;
+    for j in 0..table.phases[i] as usize {
+        if !room_at(table, i, j, margin) {
+            return Some(j);
         }
     }
-    many
+    None
 }
 
-// The first phase of task i that is stuck at t, or the number of its phases where there is none.
-fn stuck_phase<'a>(
-    i: usize,
-    t: u64,
-    margin: u64,
-    deadline: &'a [u32; 32],
-    phases: &'a [u32; 32],
-    work: &'a [u32; 256],
-    cost: &'a [u32; 256],
-) -> usize
-    requires { (i < 32) × (get_or phases.now i 0 ≤ phases_most) }
-    ensures { FirstWhere (get_or phases.now i 0) (Stuck (arrays_as 0 [] deadline.now phases.now work.now cost.now) t margin i) result }
+// The first phase of task i that is stuck at t. A task whose deadline is not after t does not block.
+fn stuck_phase(table: &Table, i: usize, t: u64, margin: u64) -> Option<usize>
+    requires { (i < tasks_most) × (get_or table.now.phases i 0 ≤ phases_most) }
+    ensures { FirstWhere (get_or table.now.phases i 0) (Stuck (arrays_of table.now) t margin i) result }
 {
-    if wide(deadline[i]) <= t {
-        return size(phases[i]);
+    if u64::from(table.deadline[i]) <= t {
+        return None;
     }
-    lacking(i, margin, phases, work, cost)
+    lacking(table, i, margin)
 }
 
-// Whether the walk stops, and the blocked task and phase, numbered from 1, or 0 and 0.
+// Why the walk stops: the blocked task and phase, numbered from 1, or 0 and 0 where the demand is above the point.
 #[derive(Clone, Copy)]
-pub struct Stop {
-    pub stops: bool,
+pub struct Blocked {
     pub task: usize,
     pub phase: usize,
 }
 
 // The first task that has a phase stuck at t, with its first such phase.
-fn first_stuck<'a>(
-    n: usize,
-    t: u64,
-    demand: u64,
-    deadline: &'a [u32; 32],
-    phases: &'a [u32; 32],
-    work: &'a [u32; 256],
-    cost: &'a [u32; 256],
-) -> Stop
-    requires { (demand ≤ t) × (n ≤ 32) × Below n (λ i. get_or phases.now i 0 ≤ phases_most) }
-    ensures { PointJudged (arrays_as n [] deadline.now phases.now work.now cost.now) t demand result.stops result.task result.phase }
+fn first_stuck(table: &Table, t: u64, demand: u64) -> Option<Blocked>
+    requires { (demand ≤ t) × (table.now.tasks ≤ tasks_most) × Below table.now.tasks (λ i. get_or table.now.phases i 0 ≤ phases_most) }
+    ensures { PointJudged (arrays_of table.now) t demand result }
 {
     let margin = t - demand;
-    let mut i: usize = 0;
-    while i < n {
-        let j = stuck_phase(i, t, margin, deadline, phases, work, cost);
-        if j < size(phases[i]) {
-            return Stop {
-                stops: true,
+    for i in 0..table.tasks {
+        if let Some(j) = stuck_phase(table, i, t, margin) {
+            return Some(Blocked {
                 task: i + 1,
                 phase: j + 1,
-            };
+            });
         }
-        i += 1;
     }
-    Stop {
-        stops: false,
-        task: 0,
-        phase: 0,
-    }
+    None
 }
 
-// Only a margin under the least so far can leave a phase stuck.
-pub fn judge_point<'a>(
-    n: usize,
-    t: u64,
-    demand: u64,
-    low: u64,
-    deadline: &'a [u32; 32],
-    phases: &'a [u32; 32],
-    work: &'a [u32; 256],
-    cost: &'a [u32; 256],
-) -> Stop
-    requires { BeforeStop (arrays_as n [] deadline.now phases.now work.now cost.now) t demand low }
-    ensures { PointJudged (arrays_as n [] deadline.now phases.now work.now cost.now) t demand result.stops result.task result.phase }
+// Whether the walk stops at t, and why. Only a margin under the least so far can leave a phase stuck.
+pub fn judge_point(table: &Table, t: u64, demand: u64, low: u64) -> Option<Blocked>
+    requires { BeforeStop (arrays_of table.now) t demand low }
+    ensures { PointJudged (arrays_of table.now) t demand result }
 {
     if t < demand {
-        return Stop {
-            stops: true,
-            task: 0,
-            phase: 0,
-        };
+        return Some(Blocked { task: 0, phase: 0 });
     }
     if low <= t - demand {
-        return Stop {
-            stops: false,
-            task: 0,
-            phase: 0,
-        };
+        return None;
     }
-    first_stuck(n, t, demand, deadline, phases, work, cost)
+    first_stuck(table, t, demand)
 }

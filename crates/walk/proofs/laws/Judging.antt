@@ -27,16 +27,14 @@ use Rattle.model.proofs.laws.Raise.{raise_kept, raise_raised}
 use Rattle.model.proofs.laws.NextTest.{next_test, next_deadline}
 use Rattle.model.proofs.laws.Verdict.{AcceptedUpTo}
 use Rattle.model.proofs.laws.Walking.{Walking, walking_end, walking_raise, walking_refuse, walking_start}
-use Rattle.pieces.specs.Bare.{needs}
-use Rattle.pieces.specs.laws.Task.{cost_bare, need_far, work_in}
+use Rattle.pieces.specs.Task.{needs}
+use Rattle.pieces.specs.laws.Task.{need_far, work_in}
 use Rattle.walk.specs.Budgets.{least_budget}
 use Rattle.walk.specs.Deadlines.{Earliest}
 use Rattle.walk.specs.Stuck.{FirstStuck, WalksOn, StopsAt, blocked, overloaded}
-use Rattle.walk.specs.Take.{unspaced}
 use Rattle.walk.specs.Walk.{PointStep, Reached, WalkState, Walkable, start, start_of, step}
 use Rattle.walk.proofs.laws.Demand.{demand_is, demand_step, demand_at, jobs_of, next_is}
 use Rattle.walk.proofs.laws.Limits.{laws, sane, task_in}
-use Rattle.walk.proofs.laws.Stuck.{found_below}
 use Rattle.walk.proofs.laws.Walk.{bounded, later, need_falls, settled_of}
 
 -- the lesser of two margins needs the larger of the two counts
@@ -57,7 +55,7 @@ eq_or_not a b = ⊎_elim (λ le. ⊎_elim (λ ge. inl (omega arith)) (λ lt. inr
 
 -- the margin that a task's counts are cut to: its own from its deadline on, before that the least so far
 abbrev pub cut_of : Arrays → WalkState → ℕ → ℕ
-cut_of a s i = if leb (get_or a.deadline i 0) s.last then get_or s.cuts i 0 else s.low
+cut_of a s i = if leb (get_or a.deadline i 0) s.last then get_or s.known.cuts i 0 else s.low
 
 -- the walk's counts
 abbrev pub choice_of : Arrays → WalkState → Choice
@@ -71,7 +69,7 @@ module _ (a : Arrays) (h : ℕ) (lim : Walkable a h) where
   abbrev P : Phases
   P = phases_of (as_tasks a)
 
-  module _ (s : WalkState) (r : Reached a h s) (t : ℕ) (earliest : Earliest a.tasks s.next t) where
+  module _ (s : WalkState) (r : Reached a h s) (t : ℕ) (earliest : Earliest a.tasks s.known.next t) where
     past : s.last < t
     past = later a h lim s t (bounded a h lim r) earliest
 
@@ -93,8 +91,8 @@ module _ (a : Arrays) (h : ℕ) (lim : Walkable a h) where
         (omega (arith, min_lower (a.tasks - 1) f i (omega (arith, lim.some_task)), next_is a h lim r i l))
 
   budget_step : (t : ℕ) (s e : WalkState) → Reached a h s → PointStep a h t s e → (i : ℕ) → i < a.tasks
-      → (get_or a.deadline i 0 ≤ s.last → get_or s.budget i 0 ≡ least_budget a (get_or s.cuts i 0) i)
-      → get_or a.deadline i 0 ≤ t → get_or e.budget i 0 ≡ least_budget a (get_or e.cuts i 0) i
+      → (get_or a.deadline i 0 ≤ s.last → get_or s.known.budget i 0 ≡ least_budget a (get_or s.known.cuts i 0) i)
+      → get_or a.deadline i 0 ≤ t → get_or e.known.budget i 0 ≡ least_budget a (get_or e.known.cuts i 0) i
   budget_step t s e r st i l ih le =
       rw (st.taken.budgets.budget.below i l, st.taken.budgets.cuts.below i l)
       (⊎_elim
@@ -103,13 +101,13 @@ module _ (a : Arrays) (h : ℕ) (lim : Walkable a h) where
       (eq_or_not (get_or a.deadline i 0) t))
 
   -- the budget that the walk carries for a settled task is that of the least counts for its margin
-  budget_is : {s : WalkState} → Reached a h s → (i : ℕ) → i < a.tasks → get_or a.deadline i 0 ≤ s.last → get_or s.budget i 0 ≡ least_budget a (get_or s.cuts i 0) i
+  budget_is : {s : WalkState} → Reached a h s → (i : ℕ) → i < a.tasks → get_or a.deadline i 0 ≤ s.last → get_or s.known.budget i 0 ≡ least_budget a (get_or s.known.cuts i 0) i
   budget_is start i l le = absurd (omega (arith, le, (task_in a h lim i l).deadline_least))
   budget_is (step t {s} {e} r st go) i l le = budget_step t s e r st i l (λ before. budget_is r i l before) (rw st.last at le)
 
   module _ (t : ℕ) (s e : WalkState) (r : Reached a h s) (st : PointStep a h t s e) where
     -- a task that is settled at the point was cut to the margin that the earlier choice has
-    cut_next : (i : ℕ) → i < a.tasks → get_or a.deadline i 0 ≤ t → get_or e.cuts i 0 ≡ cut_of a s i
+    cut_next : (i : ℕ) → i < a.tasks → get_or a.deadline i 0 ≤ t → get_or e.known.cuts i 0 ≡ cut_of a s i
     cut_next i l le =
         st.taken.budgets.cuts.below i l
         ∙ ⊎_elim
@@ -118,28 +116,27 @@ module _ (a : Arrays) (h : ℕ) (lim : Walkable a h) where
         (eq_or_not (get_or a.deadline i 0) t)
 
     -- so its budget is that of the earlier choice
-    budget_here : (i : ℕ) → i < a.tasks → get_or a.deadline i 0 ≤ t → get_or e.budget i 0 ≡ P.budget (choice_of a s) i
+    budget_here : (i : ℕ) → i < a.tasks → get_or a.deadline i 0 ≤ t → get_or e.known.budget i 0 ≡ P.budget (choice_of a s) i
     budget_here i l le =
         budget_step t s e r st i l (budget_is r i l) le ∙ ap (λ (m : ℕ). least_budget a m i) (cut_next i l le)
-        ∙ cost_bare a (needs P (cut_of a s i)) i
         ∙ cost_same S P (laws a h lim) (needs P (cut_of a s i)) (choice_of a s) i l (λ j k. refl)
 
     -- the demand that the walk carries at the point is that of the earlier choice
     demand_here : e.demand ≡ demand_of S P (choice_of a s) t
     unfolding demand
     demand_here =
-        demand_step a h lim t s e r st (demand_is a h lim r) ∙ ap (demand_at a e.budget) st.last
+        demand_step a h lim t s e r st (demand_is a h lim r) ∙ ap (demand_at a e.known.budget) st.last
         ∙ sum_cong a.tasks _ _ (λ i l.
         ⊎_elim
         (λ (le : get_or a.deadline i 0 ≤ t). ap (λ (k : ℕ). jobs_of a i t * k) (budget_here i l le))
-        (λ late. rw (jobs_before (get_or a.spacing i 0) (get_or a.deadline i 0) t late) (zero-mul (get_or e.budget i 0) ∙ sym (zero-mul (P.budget (choice_of a s) i))))
+        (λ late. rw (jobs_before (get_or a.spacing i 0) (get_or a.deadline i 0) t late) (zero-mul (get_or e.known.budget i 0) ∙ sym (zero-mul (P.budget (choice_of a s) i))))
         (le_or_lt (get_or a.deadline i 0) t))
 
     margin_here : t - e.demand ≡ margin S P (choice_of a s) t
     unfolding margin
     margin_here = ap (λ (d : ℕ). t - d) demand_here
 
-    module _ (go : WalksOn (unspaced a) t e.demand) where
+    module _ (go : WalksOn a t e.demand) where
       -- no phase of a task that blocks is stuck
       roomy : Each S (λ i j. t < get_or a.deadline i 0 → P.room i j (t - e.demand) ≡ true)
       roomy i j l k late = otherwise_true (P.room i j (t - e.demand)) (λ z. go.free i l (j, k, (late, z)))
@@ -178,34 +175,32 @@ module _ (a : Arrays) (h : ℕ) (lim : Walkable a h) where
       (subst (λ (k : ℕ). Walking S P t (choice_of a e) k) p w)
 
   -- every test point up to h was taken
-  pub accepting : (s : WalkState) → Reached a h s → (t : ℕ) → Earliest a.tasks s.next t → h < t → AcceptedUpTo S P h (choice_of a s) s.points
+  pub accepting : (s : WalkState) → Reached a h s → (t : ℕ) → Earliest a.tasks s.known.next t → h < t → AcceptedUpTo S P h (choice_of a s) s.points
   accepting s r t earliest beyond =
       walking_end S (sane a h lim) P (laws a h lim) s.last (choice_of a s) s.points (walking r) t (next_test_lem s r t earliest) h (bounded a h lim r).last beyond
 
   -- the first task that has a phase stuck at t, and the first such phase
-  first_blocked : (t M i j : ℕ) → i < a.tasks → FirstStuck (unspaced a) t M i j → FirstBlocked S P t M i j
-  first_blocked t M i j l f =
-      let (b, bl, stuck) = f.task.found l in
-      let g = f.phase l in
-      let here : j < get_or a.phases i 0 = found_below g (b, bl, stuck) in
+  first_blocked : (t M i j : ℕ) → FirstStuck a t M i j → FirstBlocked S P t M i j
+  first_blocked t M i j f =
+      let stuck = f.phase.here in
       record {
-        task = l;
-        phase = here;
+        task = f.task.within;
+        phase = f.phase.within;
         above = stuck.0;
-        no_room = (g.found here).1;
+        no_room = stuck.1;
         earlier_tasks = λ k kl late b bl. otherwise_true (P.room k b M) (λ z. f.task.earlier k kl (b, bl, (late, z)));
-        earlier_phases = λ b bl. otherwise_true (P.room i b M) (λ z. g.earlier b bl (stuck.0, z));
+        earlier_phases = λ b bl. otherwise_true (P.room i b M) (λ z. f.phase.earlier b bl (stuck.0, z));
       }
 
   module _ (t : ℕ) (s e : WalkState) (r : Reached a h s) (st : PointStep a h t s e) where
-    blocks : {i j : ℕ} → StopsAt (unspaced a) t e.demand i j → Blocked S P (choice_of a s) t i j
+    blocks : {i j : ℕ} → StopsAt a t e.demand i j → Blocked S P (choice_of a s) t i j
     blocks (overloaded over) = by_demand (rw (demand_here t s e r st) at over)
-    blocks (blocked {i} {j} fits l f) =
+    blocks (blocked {i} {j} fits f) =
         rw (add-one i, add-one j)
-        (by_phase (rw (demand_here t s e r st) at fits) (rw (margin_here t s e r st) at (first_blocked t (t - e.demand) i j l f)))
+        (by_phase (rw (demand_here t s e r st) at fits) (rw (margin_here t s e r st) at (first_blocked t (t - e.demand) i j f)))
 
     -- the point refuses
-    pub refusing : {i j : ℕ} → StopsAt (unspaced a) t e.demand i j → Refused S P h t e.demand e.points i j
+    pub refusing : {i j : ℕ} → StopsAt a t e.demand i j → Refused S P h t e.demand e.points i j
     refusing b =
         let p : e.points ≡ suc s.points = omega (arith, st.points) in
         let v = walking_refuse S (sane a h lim) P (laws a h lim) s.last (choice_of a s) s.points (walking r) t (next_test_lem s r t st.earliest) h st.within (blocks b) in

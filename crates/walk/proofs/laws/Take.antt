@@ -12,7 +12,9 @@ use Rattle.model.specs.Ranges.{tasks_most}
 use Rattle.walk.specs.Budgets.{AddedUp, BeforeSum, where_due}
 use Rattle.walk.specs.Deadlines.{BeforePass, DueAt, Mapped, PointPassed}
 use Rattle.finite.specs.Masks.{bit}
-use Rattle.walk.specs.Take.{BeforePoint, PointTaken, budget_arrays}
+use Rattle.walk.specs.Take.{BeforePoint, PointTaken}
+use Rattle.walk.specs.declared.deadlines.Moved.{Moved}
+use Rattle.walk.specs.declared.points.Known.{Known}
 use Rattle.walk.proofs.laws.Budgets.{added_at_most, settled_other}
 use Rattle.walk.proofs.laws.Stuck.{not_both}
 
@@ -40,13 +42,17 @@ module _ {n t : ℕ} {next : List ℕ} {mask : ℕ} (d : DueAt n t next mask) wh
         beyond = λ i le. ⊎_elim (m.beyond i) (λ (l : i < tasks_most). m.below i l ∙ cond_false (bit mask i) _ _ (d.beyond i le)) (le_or_lt tasks_most i);
       }
 
-module _ {a : Arrays} {t low : ℕ} {next budget cuts : List ℕ} (r : BeforePoint a t low next budget cuts) where
+module _ {a : Arrays} {t low : ℕ} {k : Known} (r : BeforePoint a t low k) where
   -- what its two calls ask
-  pub before_pass : BeforePass a.tasks t a.spacing next
+  pub before_pass : BeforePass a.tasks t a.spacing k.next
   before_pass = record { some = r.some; few = r.few; point = r.point; wide = r.next_wide; short = r.spacing; near = r.near }
 
-  module _ {next' : List ℕ} {mask soonest : ℕ} (p : PointPassed a.tasks t a.spacing next next' mask soonest) where
-    pub before_sum : BeforeSum (budget_arrays a) t low (bit mask) budget cuts
+  module _ {next' : List ℕ} {moved : Moved} (p : PointPassed a.tasks t a.spacing k.next next' moved) where
+    -- what is known once the point is passed
+    abbrev passed : Known
+    passed = record { next = next'; budget = k.budget; cuts = k.cuts }
+
+    pub before_sum : BeforeSum a t low (bit moved.due) passed
     before_sum =
         record {
           budget_wide = r.budget_wide;
@@ -56,18 +62,18 @@ module _ {a : Arrays} {t low : ℕ} {next budget cuts : List ℕ} (r : BeforePoi
         }
 
     -- a task that is not due is not at its first deadline
-    not_first : (i : ℕ) → i < a.tasks → bit mask i ≡ false → get_or a.deadline i 0 ≡ t → ⊥
+    not_first : (i : ℕ) → i < a.tasks → bit moved.due i ≡ false → get_or a.deadline i 0 ≡ t → ⊥
     not_first i l e q = eqb-false _ _ (sym (p.due.each i l) ∙ e) (r.fresh i l q)
 
-    pub point_taken : {budget' cuts' : List ℕ} {added : ℕ} → AddedUp (budget_arrays a) t low (bit mask) budget cuts budget' cuts' added → PointTaken a t low next budget cuts next' budget' cuts' added soonest
-    point_taken {budget'} {cuts'} {added} k =
+    pub point_taken : {k' : Known} {added : ℕ} → AddedUp a t low (bit moved.due) passed k' added → PointTaken a t low k k' (record { added = added; soonest = moved.soonest })
+    point_taken {k'} {added} m =
         record {
-          deadlines = p.moved;
+          deadlines = rw m.next p.moved;
           budgets =
               record {
-                budget = due_mapped p.due r.few (λ i v l e. settled_other t _ _ v (not_first i l e)) k.budget;
-                cuts = due_mapped p.due r.few (λ i v l e. settled_other t _ low v (not_first i l e)) k.cuts;
-                sum = k.sum ∙ sum_short tasks_most a.tasks _ r.few (λ i le. cond_false (bit mask i) _ _ (p.due.beyond i le)) ∙ sum_cong a.tasks _ _ (λ i l. rw (p.due.each i l));
-                most = added_at_most before_sum (λ i e. e) k;
+                budget = due_mapped p.due r.few (λ i v l e. settled_other t _ _ v (not_first i l e)) m.budget;
+                cuts = due_mapped p.due r.few (λ i v l e. settled_other t _ low v (not_first i l e)) m.cuts;
+                sum = m.sum ∙ sum_short tasks_most a.tasks _ r.few (λ i le. cond_false (bit moved.due i) _ _ (p.due.beyond i le)) ∙ sum_cong a.tasks _ _ (λ i l. rw (p.due.each i l));
+                most = added_at_most before_sum (λ i e. e) m;
               };
         }

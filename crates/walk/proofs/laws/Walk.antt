@@ -12,12 +12,11 @@ use Rattle.model.specs.Phase.{Phases, phases_of}
 use Rattle.model.specs.Tasks.{Each, Tasks}
 use Rattle.model.proofs.laws.Phases.{Laws}
 use Rattle.pieces.specs.Bounds.{budget_most}
-use Rattle.pieces.specs.Bare.{bare_tasks}
 use Rattle.pieces.specs.Task.{Roomy}
-use Rattle.pieces.specs.laws.Task.{budget_at_most, room_far, roomy_bare, work_in}
+use Rattle.pieces.specs.laws.Task.{budget_at_most, room_far, work_in}
 use Rattle.walk.specs.Deadlines.{Earliest, next_most}
 use Rattle.walk.specs.Stuck.{BeforeStop, WalksOn}
-use Rattle.walk.specs.Take.{BeforePoint, unspaced}
+use Rattle.walk.specs.Take.{BeforePoint}
 use Rattle.walk.specs.Walk.{PointStep, Reached, WalkState, Walkable, start, start_of, step}
 use Rattle.walk.proofs.laws.Deadlines.{cond_cases}
 use Rattle.walk.proofs.laws.Limits.{few_tasks, laws, task_in}
@@ -35,22 +34,22 @@ need_falls S P laws i j l k low high room le =
 -- ---- states
 
 pub record Bounded (a : Arrays) (h : ℕ) (s : WalkState) : Type 0 where
-  pub next_wide : length s.next ≡ 32
-  pub budget_wide : length s.budget ≡ 32
-  pub cuts_wide : length s.cuts ≡ 32
+  pub next_wide : length s.known.next ≡ 32
+  pub budget_wide : length s.known.budget ≡ 32
+  pub cuts_wide : length s.known.cuts ≡ 32
   pub demand : s.demand ≤ s.last
   pub points : s.points ≤ s.last
   pub last : s.last ≤ h
   pub low : s.low ≤ horizon_most
-  pub ahead : Below a.tasks (λ i. s.last < get_or s.next i 0)
-  pub near : Below a.tasks (λ i. get_or s.next i 0 ≤ next_most)
-  pub budgets : Below a.tasks (λ i. get_or s.budget i 0 ≤ budget_most)
+  pub ahead : Below a.tasks (λ i. s.last < get_or s.known.next i 0)
+  pub near : Below a.tasks (λ i. get_or s.known.next i 0 ≤ next_most)
+  pub budgets : Below a.tasks (λ i. get_or s.known.budget i 0 ≤ budget_most)
   pub room : Below a.tasks (λ i. s.last < get_or a.deadline i 0 → Below (get_or a.phases i 0) (λ j. (phases_of (as_tasks a)).room i j s.low ≡ true))
 
 -- what else holds in each state that is reached: a task before its deadline waits for it, and a task after it has its margin
 pub record Settled (a : Arrays) (s : WalkState) : Type 0 where
-  pub fresh : Below a.tasks (λ i. s.last < get_or a.deadline i 0 → get_or s.next i 0 ≡ get_or a.deadline i 0)
-  pub cut : Below a.tasks (λ i. get_or a.deadline i 0 ≤ s.last → Roomy (as_tasks a) (get_or s.cuts i 0) i)
+  pub fresh : Below a.tasks (λ i. s.last < get_or a.deadline i 0 → get_or s.known.next i 0 ≡ get_or a.deadline i 0)
+  pub cut : Below a.tasks (λ i. get_or a.deadline i 0 ≤ s.last → Roomy (as_tasks a) (get_or s.known.cuts i 0) i)
 
 module _ (a : Arrays) (h : ℕ) (lim : Walkable a h) where
   -- a task whose deadline is the point that is taken has its phases in range, with room under the least margin
@@ -65,7 +64,7 @@ module _ (a : Arrays) (h : ℕ) (lim : Walkable a h) where
       }
 
   -- the next point lies past the last
-  pub later : (s : WalkState) (t : ℕ) → Bounded a h s → Earliest a.tasks s.next t → s.last < t
+  pub later : (s : WalkState) (t : ℕ) → Bounded a h s → Earliest a.tasks s.known.next t → s.last < t
   later s t bd l = rw (← l.met.2) (bd.ahead l.met.0 l.met.1)
 
   bounded_start : Bounded a h (start_of a)
@@ -84,7 +83,7 @@ module _ (a : Arrays) (h : ℕ) (lim : Walkable a h) where
         room = λ i l d j k. room_far (as_tasks a) i j (work_in (as_tasks a) i j (lim.items.phase i j l k));
       }
 
-  bounded_step : (t : ℕ) (s e : WalkState) → Bounded a h s → PointStep a h t s e → WalksOn (unspaced a) t e.demand → Bounded a h e
+  bounded_step : (t : ℕ) (s e : WalkState) → Bounded a h s → PointStep a h t s e → WalksOn a t e.demand → Bounded a h e
   bounded_step t s e bd st go =
       let past : s.last < t = later s t bd st.earliest in
       let dl = st.taken.deadlines.each in
@@ -98,12 +97,12 @@ module _ (a : Arrays) (h : ℕ) (lim : Walkable a h) where
         last = omega (arith, st.last, st.within);
         low = omega (arith, st.low, bd.low);
         ahead = λ i l. rw (st.last, dl.below i l)
-            (cond_cases (λ v. t < v) (get_or s.next i 0) t _ _ (λ eq. omega (arith, (task_in a h lim i l).spacing_least)) (λ ne. omega (arith, st.earliest.below i l)));
+            (cond_cases (λ v. t < v) (get_or s.known.next i 0) t _ _ (λ eq. omega (arith, (task_in a h lim i l).spacing_least)) (λ ne. omega (arith, st.earliest.below i l)));
         near = λ i l. rw (dl.below i l)
-            (cond_cases (λ v. v ≤ next_most) (get_or s.next i 0) t _ _ (λ eq. omega (arith, st.within, lim.horizon, (task_in a h lim i l).spacing_at_most)) (λ ne. bd.near i l));
+            (cond_cases (λ v. v ≤ next_most) (get_or s.known.next i 0) t _ _ (λ eq. omega (arith, st.within, lim.horizon, (task_in a h lim i l).spacing_at_most)) (λ ne. bd.near i l));
         budgets = λ i l. rw (bg.budget.below i l)
             (cond_cases (λ v. v ≤ budget_most) (get_or a.deadline i 0) t _ _
-            (λ eq. budget_at_most (bare_tasks a.phases a.work a.cost) i s.low (roomy_bare a (due_phases s bd t past i l eq)))
+            (λ eq. budget_at_most (as_tasks a) i s.low (due_phases s bd t past i l eq))
             (λ ne. bd.budgets i l));
         room = λ i l d j k. roomier i l (omega (arith, st.last)) j k (bd.room i l (omega (arith, st.last)) j k);
       }
@@ -129,8 +128,8 @@ module _ (a : Arrays) (h : ℕ) (lim : Walkable a h) where
       let past : s.last < t = later s t bd st.earliest in
       record {
         fresh = λ i l d.
-            let wait : get_or s.next i 0 ≡ get_or a.deadline i 0 = was.fresh i l (omega (arith, st.last)) in
-            st.taken.deadlines.each.below i l ∙ cond_cases (λ v. v ≡ get_or a.deadline i 0) (get_or s.next i 0) t _ _ (λ eq. absurd (omega (arith, st.last))) (λ ne. wait);
+            let wait : get_or s.known.next i 0 ≡ get_or a.deadline i 0 = was.fresh i l (omega (arith, st.last)) in
+            st.taken.deadlines.each.below i l ∙ cond_cases (λ v. v ≡ get_or a.deadline i 0) (get_or s.known.next i 0) t _ _ (λ eq. absurd (omega (arith, st.last))) (λ ne. wait);
         cut = λ i l d.
             rw (st.taken.budgets.cuts.below i l)
             (cond_cases (λ v. Roomy (as_tasks a) v i) (get_or a.deadline i 0) t _ _
@@ -143,16 +142,16 @@ module _ (a : Arrays) (h : ℕ) (lim : Walkable a h) where
   settled_of (step t {s} {e} r st go) = settled_step t s e (bounded r) (settled_of r) st
 
   -- where every point up to h has been taken, every task has its margin
-  pub all_cut : (s : WalkState) → Reached a h s → (t : ℕ) → Earliest a.tasks s.next t → h < t → Below a.tasks (λ i. Roomy (as_tasks a) (get_or s.cuts i 0) i)
+  pub all_cut : (s : WalkState) → Reached a h s → (t : ℕ) → Earliest a.tasks s.known.next t → h < t → Below a.tasks (λ i. Roomy (as_tasks a) (get_or s.known.cuts i 0) i)
   all_cut s r t l beyond i il =
       let was = settled_of r in
       ⊎_elim (was.cut i il) (λ lt. absurd (omega (arith, was.fresh i il lt, l.below i il, lim.early i il))) (le_or_lt (get_or a.deadline i 0) s.last)
 
   -- ---- what the walk's calls ask
 
-  module _ {s : WalkState} (r : Reached a h s) {t : ℕ} (earliest : Earliest a.tasks s.next t) where
+  module _ {s : WalkState} (r : Reached a h s) {t : ℕ} (earliest : Earliest a.tasks s.known.next t) where
     -- a state that is reached is ready for its next point
-    pub ready : t ≤ h → BeforePoint a t s.low s.next s.budget s.cuts
+    pub ready : t ≤ h → BeforePoint a t s.low s.known
     ready within =
         let bd = bounded r in
         let past = later s t bd earliest in
@@ -166,12 +165,12 @@ module _ (a : Arrays) (h : ℕ) (lim : Walkable a h) where
           spacing = λ i l. (task_in a h lim i l).spacing_at_most;
           near = bd.near;
           budgets = bd.budgets;
-          phases = λ i l e. roomy_bare a (due_phases s bd t past i l e);
+          phases = λ i l e. due_phases s bd t past i l e;
           fresh = λ i l e. (settled_of r).fresh i l (omega arith) ∙ e;
         }
 
     -- and in a margin that is not under the least so far, every phase that blocks at the point has room
-    pub before_stop : (demand : ℕ) → BeforeStop (unspaced a) t demand s.low
+    pub before_stop : (demand : ℕ) → BeforeStop a t demand s.low
     before_stop demand =
         let bd = bounded r in
         let past = later s t bd earliest in

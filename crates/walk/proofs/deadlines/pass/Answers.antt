@@ -3,24 +3,13 @@ use Rattle.walk.proofs.laws.Deadlines.{moving_all, moving_more, moving_near, mov
 use Rattle.walk.proofs.deadlines.pass.Goals as goal
 
 pub loop-i-init : goal.loop-i-init
-loop-i-init c = (c.requires.some, moving_none c.requires)
-
-pub offset_bounds-spacing-i : goal.offset_bounds-spacing-i
-offset_bounds-spacing-i c = let k = c.loop-i.invariant in
-    omega (arith, moving_near k.1 k.0)
-
-pub bounds-spacing-i : goal.bounds-spacing-i
-bounds-spacing-i c = let k = c.loop-i.invariant in
-    omega (arith, moving_near k.1 k.0)
+loop-i-init c = moving_none c.requires
 
 pub move_on-moved-requires : goal.move_on-moved-requires
-move_on-moved-requires c = let k = c.loop-i.invariant in
-    moving_near k.1 k.0
-
-pub returns-then-n-i : goal.returns-then-n-i
-returns-then-n-i c = let k = c.loop-i.invariant in
-    moving_all (moving_more k.1 k.0 c.move_on-moved.ensures) (omega (arith, c.if-n-i.true))
+move_on-moved-requires c = moving_near c.loop-i.invariant (omega arith)
 
 pub loop-i-preserved : goal.loop-i-preserved
-loop-i-preserved c = let k = c.loop-i.invariant in
-    (omega (arith, c.if-n-i.false), moving_more k.1 k.0 c.move_on-moved.ensures)
+loop-i-preserved c = moving_more c.loop-i.invariant (omega arith) c.move_on-moved.ensures
+
+pub returns : goal.returns
+returns c = moving_all c.loop-i.invariant (omega arith)

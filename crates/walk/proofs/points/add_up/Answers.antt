@@ -5,20 +5,11 @@ use Rattle.walk.proofs.points.add_up.Goals as goal
 pub loop-rest-init : goal.loop-rest-init
 loop-rest-init c = adding_none c.requires
 
-pub first_of-i-requires : goal.first_of-i-requires
-first_of-i-requires c = omega (arith, c.loop-rest-test.true)
-
 pub take-added-requires : goal.take-added-requires
 take-added-requires c = adding_room c.loop-rest.invariant c.first_of-i.ensures
 
 pub overflow_add-added : goal.overflow_add-added
 overflow_add-added c = omega (arith, adding_fits c.loop-rest.invariant c.first_of-i.ensures c.take-added.ensures)
-
-pub others_of-rest-requires : goal.others_of-rest-requires
-others_of-rest-requires c = omega (arith, c.loop-rest-test.true)
-
-pub loop-rest-smaller : goal.loop-rest-smaller
-loop-rest-smaller c = omega (arith, c.others_of-rest.ensures.fewer)
 
 pub loop-rest-preserved : goal.loop-rest-preserved
 loop-rest-preserved c = adding_more c.loop-rest.invariant c.first_of-i.ensures c.take-added.ensures c.others_of-rest.ensures

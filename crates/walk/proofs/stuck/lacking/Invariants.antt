@@ -1,15 +1,10 @@
--- `lacking` meets its contract. The invariant: the first j phases have room.
+-- `lacking` meets its contract. The invariant: the phases before phase j have room.
 -- Assumes nothing.
-use Prim.Native.Nat.{◌-◌}
-use lib.ListN.{get_or}
-use mathlib.Core.Bool.{false}
-use mathlib.Core.Path.{◌≡◌}
-use Rattle.pieces.specs.Bare.{phases_in}
-use Rattle.walk.proofs.laws.Stuck.{Searching}
+use Rattle.std.specs.Prelude.{◌≡◌, true}
+use Rattle.finite.specs.Finite.{Below}
+use Rattle.model.specs.Phase.{phases_of}
+use Rattle.table.specs.TaskModel.{tasks_of}
 use Rattle.walk.proofs.stuck.lacking.Given as goal
 
 abbrev pub invariant-loop-j : goal.invariant-loop-j
-invariant-loop-j l = (l.many ≡ get_or l.phases l.i 0) × Searching (get_or l.phases l.i 0) (λ k. (phases_in l.work l.cost).room l.i k l.margin ≡ false) l.j
-
-abbrev pub decreases-loop-j : goal.decreases-loop-j
-decreases-loop-j l = l.many - l.j
+invariant-loop-j l = Below l.j (λ k. (phases_of (tasks_of l.table)).room l.i k l.margin ≡ true)
