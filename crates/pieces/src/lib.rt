@@ -4,6 +4,5 @@
 #![tactic(auto)]
 
 pub mod counts;
-pub mod numbers;
 pub mod phase;
 pub mod task;
