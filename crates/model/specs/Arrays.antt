@@ -83,7 +83,3 @@ with_phase place numbers a = with_phases (set a.work place (get_or numbers 0 0))
 -- the arrays of its tasks alone
 abbrev pub tasks_alone : ℕ → (spacing deadline phases : List ℕ) → Arrays
 tasks_alone n spacing deadline phases = arrays_as n spacing deadline phases [] []
-
--- those of its phases alone
-abbrev pub phases_alone : (phases work cost : List ℕ) → Arrays
-phases_alone phases work cost = arrays_as 0 [] [] phases work cost

@@ -1,19 +1,16 @@
--- What a task's phases add up to is bounded, and needs neither spacings nor deadlines.
+-- What a task's phases add up to is bounded.
 -- Assumes nothing.
 use Rattle.std.specs.Prelude.{◌≡◌, true, ℕ, ◌+◌, ◌*◌, ◌-◌, ◌/◌, ◌%◌, ◌≤◌, ltb}
-use Rattle.std.proofs.Math.Path.{refl}
 use Rattle.std.proofs.Common.{◌∙◌, le_antisymm, le_trans, mul-le-mul, mul-le-mul_right, arith, lt-ltb, ltb-true}
 use Rattle.finite.specs.Finite.{Below}
 use Rattle.std.specs.Prelude.{if◌then◌else◌}
 use Rattle.finite.proofs.laws.Extremes.{max_least}
-use Rattle.model.specs.Arrays.{Arrays, as_tasks}
-use Rattle.model.specs.Phase.{Choice, brings, budget, ceil_div, has_room, longest_piece, needed, phases_of, piece_length}
+use Rattle.model.specs.Phase.{Choice, brings, ceil_div, has_room, longest_piece, needed, phases_of, piece_length}
 use Rattle.model.specs.Ranges.{PhaseIn, cost_most, horizon_most, phases_most, work_most}
 use Rattle.model.specs.Tasks.{Tasks}
 use Rattle.model.specs.Works.{longest}
 use Rattle.model.proofs.laws.Plain.{ceil_least, ceil_most, ceil_pos, pieces_of}
 use Rattle.pieces.specs.Bounds.{budget_most, phase_most, piece_most}
-use Rattle.pieces.specs.Bare.{bare_tasks}
 use Rattle.pieces.specs.Task.{InPieces, PhaseFits, Roomy, WorkIn, needs}
 use Rattle.pieces.specs.laws.Sums.{sum_most}
 
@@ -86,24 +83,3 @@ need_far S i j p =
     le_antisymm
     (ceil_least (S.c i j) (horizon_most - S.q i j) 1 (omega (arith, p.cost_at_most)) (omega (arith, p.work_at_most, p.cost_at_most)))
     (ceil_pos (S.c i j) (horizon_most - S.q i j) p.work_least (omega (arith, p.cost_at_most)))
-
--- ---- the same phases without spacings and deadlines
-
-module _ (a : Arrays) where
-  -- the tasks that the arrays hold as far as phases go
-  abbrev bare : Tasks
-  bare = bare_tasks a.phases a.work a.cost
-
-  pub roomy_bare : {M i : ℕ} → Roomy (as_tasks a) M i → Roomy bare M i
-  roomy_bare r = record { task = r.task; few = r.few; low = r.low; phase = r.phase; room = r.room }
-
-  pub in_pieces_bare : {x : Choice} {i : ℕ} → InPieces (as_tasks a) x i → InPieces bare x i
-  in_pieces_bare r = record { task = r.task; few = r.few; phase = r.phase; some = r.some }
-
-  pub cost_bare : (x : Choice) (i : ℕ) → (phases_of bare).budget x i ≡ (phases_of (as_tasks a)).budget x i
-  unfolding budget
-  cost_bare x i = refl
-
-  pub longest_bare : (x : Choice) (i : ℕ) → longest bare (phases_of bare) x i ≡ longest (as_tasks a) (phases_of (as_tasks a)) x i
-  unfolding longest
-  longest_bare x i = refl
