@@ -11,13 +11,14 @@ use Rattle.std.specs.Prelude as std
 use Rattle.std.specs.Prelude.{if◌then◌else◌, IsErrAnd, MatchResult}
 use Rattle.groups.specs.declared.Number.{Number}
 use Rattle.groups.specs.declared.NumberError.{NumberError}
+use Rattle.groups.specs.declared.NumberError.TheVariants.{Ends, Malformed}
 use Rattle.groups.specs.Number.{number_at}
 use Rattle.model.specs.Ranges.{cost_most, phases_most, spacing_most, tasks_most, work_most}
 use Rattle.table.specs.declared.Reason.TheVariants.{OutOfRange, Trailing}
 use Rattle.table.specs.declared.Table.{Table}
 use Rattle.table.specs.declared.TurnedAway.{TurnedAway}
-use Rattle.table.specs.Parse.{Result, got, away, Parser, and_then, ◌>>=◌, ◌>>◌, done, turned_away, away_for, tested, number_in, numbers_in, each, phase, task, nothing_behind, numbers, table, empty, with_count, with_phase, with_task, parsed_of, limit_of, reading_of}
-use Rattle.table.specs.Steps.{all_tasks, number_of, read_to}
+use Rattle.table.specs.Parse.{Result, got, away, Parser, and_then, ◌>>=◌, ◌>>◌, done, turned_away, tested, number_in, numbers_in, each, phase, task, nothing_behind, numbers, table, empty, with_count, with_phase, with_task, parsed_of, limit_of, reading_of}
+use Rattle.table.specs.Steps.{all_tasks, away_for, number_of, read_to}
 use Rattle.table.specs.TaskModel.{tasks_of}
 use Rattle.table.specs.Valid.{InRange}
 use Rattle.table.proofs.Ranges.{limited_by, limited_reading}
@@ -34,7 +35,7 @@ passed_on (std.Err y) h = ap std.Err h
 -- what the number reader finds at a place, and the same with its error as a reason and a place
 pub record Due (s : List ℕ) (at : ℕ) (read : std.Result Number NumberError) (found : std.Result Number TurnedAway) : Type 0 where
   pub is : read ≡ number_at s at
-  pub told : MatchResult read (λ n. found ≡ std.Ok n) (λ e. IsErrAnd found (λ a. a ≡ away_for e s at))
+  pub told : MatchResult read (λ n. found ≡ std.Ok n) (λ e. IsErrAnd found (λ a. a ≡ away_for s at e))
 
 module _ (least most : ℕ) {s : List ℕ} {at : ℕ} {read : std.Result Number NumberError} {found : std.Result Number TurnedAway} (d : Due s at read found) where
   -- none stands there
@@ -42,15 +43,16 @@ module _ (least most : ℕ) {s : List ℕ} {at : ℕ} {read : std.Result Number 
   unfolding number_in
   none {a} e = by read d.told ∙ ap (λ (r : std.Result Number NumberError). number_of (tested least most r s at)) d.is
     where
-      by : (r : std.Result Number NumberError) → MatchResult r (λ n. found ≡ std.Ok n) (λ x. IsErrAnd found (λ b. b ≡ away_for x s at)) → found ≡ number_of (tested least most r s at)
+      by : (r : std.Result Number NumberError) → MatchResult r (λ n. found ≡ std.Ok n) (λ x. IsErrAnd found (λ b. b ≡ away_for s at x)) → found ≡ number_of (tested least most r s at)
       by (std.Ok n) told = let z : ◌≡◌ {A = ℕ} 0 1 = cc in absurd (omega arith)
-      by (std.Err x) told = passed_on found told
+      by (std.Err Ends) told = passed_on found told
+      by (std.Err Malformed) told = passed_on found told
 
   module _ {n : Number} (e : found ≡ std.Ok n) where
     read_is : std.Ok n ≡ number_at s at
     read_is = by read d.told ∙ d.is
       where
-        by : (r : std.Result Number NumberError) → MatchResult r (λ n. found ≡ std.Ok n) (λ x. IsErrAnd found (λ b. b ≡ away_for x s at)) → std.Ok n ≡ r
+        by : (r : std.Result Number NumberError) → MatchResult r (λ n. found ≡ std.Ok n) (λ x. IsErrAnd found (λ b. b ≡ away_for s at x)) → std.Ok n ≡ r
         by (std.Ok m) told = let same : n ≡ m = cc in ap std.Ok same
         by (std.Err x) told = let f = sym e ∙ passed_on found told in let z : ◌≡◌ {A = ℕ} 0 1 = cc in absurd (omega arith)
 
