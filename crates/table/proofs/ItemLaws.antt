@@ -2,11 +2,11 @@
 use Prim.Native.Nat.{ℕ, ◌*◌, ◌≤◌, ◌<◌}
 use mathlib.Core.Path.{◌≡◌, refl, ap, sym, ◌∙◌}
 use mathlib.Core.List.{List, [], ◌∷◌}
-use mathlib.Core.Bool.{Bool, true, false, ◌||◌, true≢false}
+use mathlib.Core.Bool.{Bool, true, false}
 use native.Mathlib.Omega.{arith}
 use lib.Dec.{ltb}
 use lib.ListN.{length}
-use borrow.Author.Tests.{lt-ltb, le-ltb}
+use borrow.Author.Tests.{lt-ltb, le-ltb, ltb-false}
 use Rattle.std.specs.Prelude as std
 use Rattle.std.specs.Prelude.{if◌then◌else◌, IsErrAnd, MatchResult}
 use Rattle.groups.specs.declared.Number.{Number}
@@ -57,24 +57,20 @@ module _ (least most : ℕ) {s : List ℕ} {at : ℕ} {read : std.Result Number 
         by (std.Err x) told = let f = sym e ∙ passed_on found told in let z : ◌≡◌ {A = ℕ} 0 1 = cc in absurd (omega arith)
 
     -- one does, outside its range or inside
-    pub outside : (ltb n.value least || ltb most n.value) ≡ true → std.Err (turned_away OutOfRange at) ≡ number_of (number_in least most s at)
+    pub outside : (least ≤ n.value → n.value ≤ most → ⊥) → std.Err (turned_away OutOfRange at) ≡ number_of (number_in least most s at)
     unfolding number_in
-    outside h = go (ltb n.value least) (ltb most n.value) h ∙ ap (λ (r : std.Result Number NumberError). number_of (tested least most r s at)) read_is
+    outside not = go (ltb n.value least) (ltb most n.value) refl refl ∙ ap (λ (r : std.Result Number NumberError). number_of (tested least most r s at)) read_is
       where
-        go : (a b : Bool) → (a || b) ≡ true
+        go : (a b : Bool) → ltb n.value least ≡ a → ltb most n.value ≡ b
             → std.Err (turned_away OutOfRange at) ≡ number_of (if a then away OutOfRange at else if b then away OutOfRange at else got n.value n.next)
-        go true b e = refl
-        go false true e = refl
-        go false false e = absurd (true≢false (sym e))
+        go true b p q = refl
+        go false true p q = refl
+        go false false p q = absurd (not (ltb-false n.value least p) (ltb-false most n.value q))
 
-    pub inside : (ltb n.value least || ltb most n.value) ≡ false → std.Ok n ≡ number_of (number_in least most s at)
+    pub inside : least ≤ n.value → n.value ≤ most → std.Ok n ≡ number_of (number_in least most s at)
     unfolding number_in
-    inside h = go (ltb n.value least) (ltb most n.value) h ∙ ap (λ (r : std.Result Number NumberError). number_of (tested least most r s at)) read_is
-      where
-        go : (a b : Bool) → (a || b) ≡ false → std.Ok n ≡ number_of (if a then away OutOfRange at else if b then away OutOfRange at else got n.value n.next)
-        go true b e = absurd (true≢false e)
-        go false true e = absurd (true≢false e)
-        go false false e = refl
+    inside low high =
+        rw (sym read_is, le-ltb n.value least low, le-ltb most n.value high)
 
 -- a part that was turned away, and the error that is passed on
 pub stops : {A : Type 0} {x : Result A} (a : A) {e : TurnedAway} (r : std.Result ℕ TurnedAway) → x ≡ away e.reason e.place → IsErrAnd r (λ y. y ≡ e) → x ≡ read_to r a

@@ -34,7 +34,7 @@ fn number(bytes: &[u8], at: usize, least: u64, most: u64) -> Result<Number, Turn
     let Ok(number) = found else {
         return found;
     };
-    if (number.value < least) | (most < number.value) {
+    if !(least..=most).contains(&number.value) {
         return Err(TurnedAway {
             reason: Reason::OutOfRange,
             place: at,
