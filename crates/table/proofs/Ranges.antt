@@ -13,9 +13,9 @@ use Rattle.std.specs.Prelude.{if◌then◌else◌, Some, None}
 use Rattle.model.specs.Ranges.{horizon_most, jobs_most}
 use Rattle.model.specs.TestPoints.{lcm_to, horizon_of}
 use Rattle.table.specs.declared.Reason.TheVariants.{Horizon, Jobs}
+use Rattle.table.specs.declared.Reading.{Reading}
 use Rattle.table.specs.declared.Table.{Table}
 use Rattle.table.specs.declared.TurnedAway.{TurnedAway}
-use Rattle.table.specs.declared.Reading.{Reading}
 use Rattle.table.specs.Horizon.{none_above}
 use Rattle.table.specs.Parse.{got, away, turned_away, answered, Parser, and_then, done, limits, limit_of, reading_of}
 use Rattle.table.specs.TaskModel.{tasks_of, jobs_within}
