@@ -1,11 +1,13 @@
 -- Whether some number passes a test, and which is the first.
 -- Assumes nothing.
 use Rattle.std.specs.Prelude.{◌≡◌, refl, ◌⊎◌, Bool, true, false, cond, ◌||◌, ℕ, zero, suc, ◌≤◌, ◌<◌, ltb}
+use Rattle.std.proofs.lemmas.Bool.{ltb-false, ltb-true}
 use Rattle.std.proofs.Common.{sym, ◌∙◌, inl, inr, true≢false, zero-le, le_refl, eq-or-lt_of_le, le_of_suc-le-suc, not-suc-le-zero, lt-suc_self, lt_of_lt_of_le, arith}
 use Rattle.std.proofs.Math.Nat.{le_step, not-suc-le_self}
 use Rattle.finite.specs.Finite.{Below, Some, any_to, find_to}
 use Rattle.finite.proofs.laws.Sums.{but_last}
-use Rattle.finite.proofs.laws.Tests.{Decides, by_cases, failed, le_or_lt, ltb_decides}
+use Rattle.finite.proofs.laws.Tests.{by_cases, le_or_lt}
+use Rattle.std.specs.Bool.{Decides}
 
 pub any_decides : (n : ℕ) (p : ℕ → Bool) (P : ℕ → Type 0) → Below n (λ i. Decides (p i) (P i)) → Decides (any_to n p) (Some n P)
 unfolding any_to
@@ -38,11 +40,11 @@ find_first (suc n) p =
     by_cases (ltb (find_to n p) n) (before (find_to n p) (find_first n p)) (λ e. by_cases (p n) (here (find_to n p) (find_first n p) e) (nowhere (find_to n p) (find_first n p) e))
   where
     before : (r : ℕ) → IsFirst n p r → ltb r n ≡ true → IsFirst (suc n) p (cond (ltb r n) r (cond (p n) n (suc n)))
-    before r f e = rw e (record { within = le_step f.within; earlier = f.earlier; found = λ l. f.found ((ltb_decides r n).0 e) })
+    before r f e = rw e (record { within = le_step f.within; earlier = f.earlier; found = λ l. f.found (ltb-true r n e) })
 
     here : (r : ℕ) → IsFirst n p r → ltb r n ≡ false → p n ≡ true → IsFirst (suc n) p (cond (ltb r n) r (cond (p n) n (suc n)))
     here r f e e' =
-        rw (e, e') (record { within = omega arith; earlier = λ i l. f.earlier i (omega (arith, failed (ltb_decides r n) e)); found = λ l. e' })
+        rw (e, e') (record { within = omega arith; earlier = λ i l. f.earlier i (omega (arith, ltb-false r n e)); found = λ l. e' })
 
     nowhere : (r : ℕ) → IsFirst n p r → ltb r n ≡ false → p n ≡ false → IsFirst (suc n) p (cond (ltb r n) r (cond (p n) n (suc n)))
     nowhere r f e e' =
@@ -50,7 +52,7 @@ find_first (suc n) p =
       where
         all : (i : ℕ) → (i ≡ n) ⊎ (i < n) → p i ≡ false
         all i (inl u) = rw u e'
-        all i (inr l) = f.earlier i (omega (arith, failed (ltb_decides r n) e))
+        all i (inr l) = f.earlier i (omega (arith, ltb-false r n e))
 
 -- where some number passes, the first is one of them; where the search ends at n, none does
 pub first_some : {n : ℕ} {p : ℕ → Bool} {k : ℕ} → IsFirst n p k → Some n (λ i. p i ≡ true) → k < n
