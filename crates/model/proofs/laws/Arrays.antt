@@ -6,18 +6,19 @@ use Rattle.std.proofs.Math.Decide.{dec_lt}
 use Rattle.std.proofs.Math.ListN.{get_or-eq_default}
 use Rattle.finite.specs.Finite.{list_to}
 use Rattle.finite.proofs.laws.Lists.{get_or_list, length_list, list_alike, list_of}
-use Rattle.finite.proofs.laws.Tests.{by_cases, cond_false, cond_true, le_or_lt}
+use Rattle.finite.proofs.laws.Tests.{by_cases, le_or_lt}
+use Rattle.std.proofs.lemmas.Bool.{cond-false, cond-true}
 use Rattle.model.specs.Arrays.{listed_by_phase, phase_at}
 
 -- ---- phases
 
 -- one of the eight phases
 pub phase_at_lem : (xs : List ℕ) (i j : ℕ) → j < 8 → phase_at xs i j ≡ get_or xs (8 * i + j) 0
-phase_at_lem xs i j l = cond_true (ltb j 8) (get_or xs (8 * i + j) 0) 0 (lt-ltb j 8 l)
+phase_at_lem xs i j l = cond-true (ltb j 8) (get_or xs (8 * i + j) 0) 0 (lt-ltb j 8 l)
 
 -- no further one
 pub phase_none : (xs : List ℕ) (i j : ℕ) → 8 ≤ j → phase_at xs i j ≡ 0
-phase_none xs i j l = cond_false (ltb j 8) (get_or xs (8 * i + j) 0) 0 (le-ltb j 8 l)
+phase_none xs i j l = cond-false (ltb j 8) (get_or xs (8 * i + j) 0) 0 (le-ltb j 8 l)
 
 -- a place, as a phase of its task
 pub phase_place : (xs : List ℕ) (p : ℕ) → phase_at xs (p / 8) (p % 8) ≡ get_or xs p 0
@@ -31,7 +32,7 @@ pub beyond : (l : List ℕ) (n i : ℕ) → length l ≡ n → n ≤ i → get_o
 beyond l n i e h = get_or-eq_default l 0 (omega arith)
 
 pub phase_past : (a : List ℕ) (i j : ℕ) → length a ≡ 256 → 32 ≤ i → phase_at a i j ≡ 0
-phase_past a i j e h = by_cases (ltb j 8) (λ t. cond_true (ltb j 8) _ 0 t ∙ beyond a 256 (8 * i + j) e (omega arith)) (λ f. cond_false (ltb j 8) (get_or a (8 * i + j) 0) 0 f)
+phase_past a i j e h = by_cases (ltb j 8) (λ t. cond-true (ltb j 8) _ 0 t ∙ beyond a 256 (8 * i + j) e (omega arith)) (λ f. cond-false (ltb j 8) (get_or a (8 * i + j) 0) 0 f)
 
 -- ---- an array given place by place
 

@@ -1,12 +1,13 @@
 -- Laws of demand and blocking.
 -- Assumes nothing.
 use Rattle.std.specs.Prelude.{◌≡◌, ◌⊎◌, ℕ, ◌*◌, ◌≤◌, ◌<◌, leb, ltb}
+use Rattle.std.proofs.lemmas.Bool.{lt-ltb, ltb-true}
 use Rattle.std.proofs.Common.{ap, ◌∙◌, inl, inr, zero-mul, lt_of_not-le, mul-le-mul_left, arith}
 use Rattle.finite.specs.Finite.{Below}
 use Rattle.finite.proofs.laws.Extremes.{where_least, where_upper}
 use Rattle.finite.proofs.laws.Searches.{any_decides}
 use Rattle.finite.proofs.laws.Sums.{sum_mono, sum_zero}
-use Rattle.finite.proofs.laws.Tests.{decided, le_or_lt, leb_decides, ltb_decides}
+use Rattle.finite.proofs.laws.Tests.{decided, le_or_lt, leb_decides}
 use Rattle.model.specs.Demand.{blocking, demand, jobs}
 use Rattle.model.specs.Tasks.{Tasks}
 use Rattle.model.specs.Works.{Counted}
@@ -32,8 +33,8 @@ counted_or_not S t = decided (any_decides S.n (λ i. leb (S.D i) t) _ (λ i l. l
 
 pub blocking_upper : (S : Tasks) (B : ℕ → ℕ) (t : ℕ) → Below S.n (λ i. t < S.D i → B i ≤ blocking S B t)
 unfolding blocking
-blocking_upper S B t i l d = where_upper S.n (λ i. ltb t (S.D i)) B i l ((ltb_decides t (S.D i)).1 d)
+blocking_upper S B t i l d = where_upper S.n (λ i. ltb t (S.D i)) B i l (lt-ltb t (S.D i) d)
 
 pub blocking_least : (S : Tasks) (B : ℕ → ℕ) (t : ℕ) {k : ℕ} → Below S.n (λ i. t < S.D i → B i ≤ k) → blocking S B t ≤ k
 unfolding blocking
-blocking_least S B t h = where_least S.n (λ i. ltb t (S.D i)) B (λ i l e. h i l ((ltb_decides t (S.D i)).0 e))
+blocking_least S B t h = where_least S.n (λ i. ltb t (S.D i)) B (λ i l e. h i l (ltb-true t (S.D i) e))

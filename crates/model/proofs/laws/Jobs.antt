@@ -1,19 +1,20 @@
 -- How the number of jobs inside a length goes with the length.
 -- Assumes nothing.
 use Rattle.std.specs.Prelude.{◌≡◌, ◌⊎◌, ℕ, zero, suc, ◌+◌, ◌-◌, ◌*◌, ◌/◌, ◌%◌, ◌≤◌, ◌<◌}
+use Rattle.std.proofs.lemmas.Bool.{le-ltb, lt-ltb}
 use Rattle.std.proofs.Common.{sym, ap, ◌∙◌, inl, inr, le-div_iff_mul-le, div-mul-le_self, mod-lt, div-add-mod', arith}
 use Rattle.std.proofs.Math.Nat.{div-eq_of_lt, add-div_right}
 use Rattle.std.proofs.Math.Arith.{digits_div}
-use Rattle.finite.proofs.laws.Tests.{fails, le_or_lt, ltb_decides}
+use Rattle.finite.proofs.laws.Tests.{le_or_lt}
 use Rattle.model.specs.Demand.{jobs}
 
 pub jobs_before : (T D t : ℕ) → t < D → jobs T D t ≡ 0
 unfolding jobs
-jobs_before T D t h = rw ((ltb_decides t D).1 h)
+jobs_before T D t h = rw (lt-ltb t D h)
 
 pub jobs_from : (T D t : ℕ) → D ≤ t → jobs T D t ≡ (t - D) / T + 1
 unfolding jobs
-jobs_from T D t h = rw (fails (ltb_decides t D) (omega arith))
+jobs_from T D t h = rw (le-ltb t D (omega arith))
 
 -- one spacing more, one job more; also while no job fits, since D is at most T
 pub jobs_shift : (T D t : ℕ) → 1 ≤ D → D ≤ T → jobs T D (t + T) ≡ jobs T D t + 1

@@ -1,10 +1,10 @@
 -- The horizon is the least common multiple of the spacings, built from greatest common divisors, each by remainders.
 -- Assumes nothing.
 use Rattle.std.specs.Prelude.{◌≡◌, refl, ◌⊎◌, Bool, true, false, ℕ, zero, suc, ◌+◌, ◌-◌, ◌*◌, ◌/◌, ◌%◌, ◌≤◌, ◌<◌, eqb}
+use Rattle.std.proofs.lemmas.Bool.{eqb-false, eqb-true}
 use Rattle.std.proofs.Common.{sym, ◌∙◌, ap, inl, inr, le_trans, le_refl, mod-lt, div-add-mod', mul_assoc, mul_comm, mul-div_cancel, mul-pos, eq-or-lt_of_le, le_of_suc-le-suc, lt-suc_self, not-suc-le-zero, zero-mul, arith}
 use Rattle.std.proofs.Math.Nat.{eq_of_mul-eq-mul_right, mul-sub, le_step}
 use Rattle.finite.specs.Finite.{Below}
-use Rattle.finite.proofs.laws.Tests.{eqb_decides, failed}
 use Rattle.model.specs.Tasks.{Sane, Tasks}
 use Rattle.model.specs.TestPoints.{gcd, gcd_in, horizon_of, lcm, lcm_to}
 use Rattle.model.proofs.laws.Horizon.{Horizon}
@@ -42,8 +42,8 @@ gcd_in_ok zero a b l = absurd (not-suc-le-zero l)
 gcd_in_ok (suc f) a b l = go (eqb b 0) refl (λ h. gcd_in_ok f b (a % b) (omega (arith, mod-lt a h)))
   where
     go : (v : Bool) → eqb b 0 ≡ v → (0 < b → IsGcd b (a % b) (gcd_in f b (a % b))) → IsGcd a b (gcd_in (suc f) a b)
-    go true e ih = rw (e, gcd_in) (gcd_last a b ((eqb_decides b 0).0 e))
-    go false e ih = rw (e, gcd_in) (gcd_step a b _ (a / b) (a % b) (div-add-mod' a b) (ih (omega (arith, failed (eqb_decides b 0) e))))
+    go true e ih = rw (e, gcd_in) (gcd_last a b (eqb-true b 0 e))
+    go false e ih = rw (e, gcd_in) (gcd_step a b _ (a / b) (a % b) (div-add-mod' a b) (ih (omega (arith, eqb-false b 0 e))))
 
 pub gcd_ok : (a b : ℕ) → IsGcd a b (gcd a b)
 unfolding gcd

@@ -4,8 +4,9 @@ use Rattle.std.specs.Prelude.{◌≡◌, Bool, List, [], ◌∷◌, ℕ, zero, s
 use Rattle.std.proofs.Common.{ap₂, subst, arith}
 use Rattle.std.proofs.Math.Decide.{dec_lt}
 use Rattle.finite.specs.Finite.{Below, list_to}
-use Rattle.finite.proofs.laws.Decided.{by_test, every, restated, within_decides}
-use Rattle.finite.proofs.laws.Tests.{Decides, eqb_decides, ltb_decides}
+use Rattle.finite.proofs.laws.Decided.{by_test, every, within_decides}
+use Rattle.std.proofs.lemmas.Bool.Decides.{Decides-eqb, Decides-like, Decides-ltb}
+use Rattle.std.specs.Bool.{Decides}
 use Rattle.model.specs.Arrays.{listed_by_phase, phase_at}
 use Rattle.model.specs.Ranges.{FromTo, all_phases, number_test, phases_most, tasks_most}
 use Rattle.model.specs.Tasks.{Each, Tasks}
@@ -30,7 +31,7 @@ pub places_decide : (S : Tasks) → Few S → (f : ℕ → ℕ → Bool) (U N : 
     → ((i j : ℕ) → 32 ≤ i → N i j) → ((i j : ℕ) → 8 ≤ j → N i j)
     → Decides (all_phases f) (Each S U × ((i j : ℕ) → S.m i ≤ j → N i j))
 places_decide S few f U N test past over =
-    restated from to (every 256 (λ p. f (p / 8) (p % 8)) (λ p. P (p / 8) (p % 8)) (λ p. test (p / 8) (p % 8)))
+    Decides-like _ from to (every 256 (λ p. f (p / 8) (p % 8)) (λ p. P (p / 8) (p % 8)) (λ p. test (p / 8) (p % 8)))
   where
     P : ℕ → ℕ → Type 0
     P i j = (j < S.m i → U i j) × (¬ (j < S.m i) → N i j)
@@ -79,7 +80,7 @@ pub number_decides : (S : Tasks) → Few S → (least most : ℕ) (a : List ℕ)
     → Decides (all_phases (number_test S.m least most (phase_at a))) (NumberIn S least most (phase_at a))
 number_decides S few least most a long =
     places_decide S few (number_test S.m least most (phase_at a)) (λ i j. (least ≤ phase_at a i j) × (phase_at a i j ≤ most)) (λ i j. phase_at a i j ≡ 0)
-    (λ i j. by_test (ltb_decides j (S.m i)) (within_decides least most (phase_at a i j)) (eqb_decides (phase_at a i j) 0))
+    (λ i j. by_test (Decides-ltb j (S.m i)) (within_decides least most (phase_at a i j)) (Decides-eqb (phase_at a i j) 0))
     (λ i j h. phase_past a i j long h) (λ i j h. phase_none a i j h)
 
 -- numbers one behind the other, each in its range

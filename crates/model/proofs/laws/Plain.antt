@@ -1,11 +1,11 @@
 -- Division rounded up, and the laws of document 01's phases.
 -- Assumes nothing.
 use Rattle.std.specs.Prelude.{refl, ℕ, suc, ◌+◌, ◌-◌, ◌*◌, ◌/◌, ◌≤◌, ◌<◌}
+use Rattle.std.proofs.lemmas.Bool.{lt-ltb, ltb-true}
 use Rattle.std.proofs.Common.{le_trans, le_refl, add-le-add, mul-le-mul_right, mul_comm, zero-mul, le-mul_of_pos_right, div-lt_iff_lt-mul, lt_of_not-le, arith}
 use Rattle.std.proofs.Math.Nat.{le-max_left}
 use Rattle.finite.specs.Finite.{Below}
 use Rattle.finite.proofs.laws.Sums.{sum_mono}
-use Rattle.finite.proofs.laws.Tests.{ltb_decides}
 use Rattle.model.specs.Phase.{Choice, budget, ceil_div, longest_piece, phases_of, plain}
 use Rattle.model.specs.Tasks.{Sane, Tasks}
 use Rattle.model.proofs.laws.Phases.{Laws, Pieces}
@@ -63,11 +63,11 @@ plain_laws S sane = record {
   one_allowed = λ i j l k. le_refl 1;
   one_least = λ i j l k x a. a;
   max_allowed = λ i j l k x y a b. le_trans a (le-max_left x y);
-  need_allowed = λ i j l k M e. let h : S.q i j < M = (ltb_decides (S.q i j) M).0 e in ceil_pos (S.c i j) (M - S.q i j) (sane.some_work i j l k) (omega arith);
-  need_enough = λ i j l k M x e a h. piece_enough (S.c i j) (S.q i j) M x a ((ltb_decides (S.q i j) M).0 e) h;
-  need_least = λ i j l k M x a h. let r = piece_need (S.c i j) (S.q i j) M x (sane.some_work i j l k) a h in ((ltb_decides (S.q i j) M).1 r.0, r.1);
+  need_allowed = λ i j l k M e. let h : S.q i j < M = ltb-true (S.q i j) M e in ceil_pos (S.c i j) (M - S.q i j) (sane.some_work i j l k) (omega arith);
+  need_enough = λ i j l k M x e a h. piece_enough (S.c i j) (S.q i j) M x a (ltb-true (S.q i j) M e) h;
+  need_least = λ i j l k M x a h. let r = piece_need (S.c i j) (S.q i j) M x (sane.some_work i j l k) a h in (lt-ltb (S.q i j) M r.0, r.1);
   most_allowed = sane.some_work;
-  need_most = λ i j l k M e. let h : S.q i j < M = (ltb_decides (S.q i j) M).0 e in ceil_most (S.c i j) (M - S.q i j) (omega arith);
+  need_most = λ i j l k M e. let h : S.q i j < M = ltb-true (S.q i j) M e in ceil_most (S.c i j) (M - S.q i j) (omega arith);
   cost_mono = λ i l x y h. budget_more S x y i h;
   short_pieces = λ i j l k x a. longest_between (S.c i j) (S.q i j) (x i j) (sane.some_work i j l k) a;
 }

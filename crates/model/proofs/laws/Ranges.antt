@@ -6,9 +6,11 @@ use Rattle.std.proofs.Common.{sym, ◌∙◌, subst, length-set}
 use Rattle.std.proofs.Math.Decide.{dec_lt}
 use native.Mathlib.Omega.{arith}
 use Rattle.finite.specs.Finite.{Below}
-use Rattle.finite.proofs.laws.Decided.{both, by_test, every, restated, three, under, within_decides}
+use Rattle.finite.proofs.laws.Decided.{by_test, every, three, under, within_decides}
+use Rattle.std.proofs.lemmas.Bool.Decides.{Decides-and, Decides-eqb, Decides-like, Decides-ltb}
+use Rattle.std.specs.Bool.{Decides}
 use Rattle.finite.proofs.laws.Lists.{length_list, list_of}
-use Rattle.finite.proofs.laws.Tests.{Decides, eqb_decides, leb_decides, ltb_decides}
+use Rattle.finite.proofs.laws.Tests.{leb_decides}
 use Rattle.model.specs.Arrays.{Arrays, Sized, arrays_from, as_tasks, empty_arrays, with_count, with_phase, with_task}
 use Rattle.model.specs.Ranges.{InTable, NoPhase, NoTask, PhaseIn, PhaseRange, PhaseZero, TaskIn, TaskRange, TaskZero, cost_most, phase_numbers, phases_most, spacing_most, table_test, task_test, tasks_most, work_most}
 use Rattle.model.specs.Tasks.{Tasks}
@@ -19,8 +21,8 @@ use Rattle.model.proofs.laws.Places.{AllIn, Few, at_task, at_used, number_decide
 
 pub task_decides : (S : Tasks) (i : ℕ) → Decides (task_test S i) ((i < S.n → TaskIn S i) × (¬ (i < S.n) → NoTask S i))
 task_decides S i =
-    by_test (ltb_decides i S.n)
-    (restated
+    by_test (Decides-ltb i S.n)
+    (Decides-like _
     (λ t. record {
       spacing_least = t.0.0;
       spacing_at_most = t.0.1;
@@ -31,10 +33,10 @@ task_decides S i =
     })
     (λ t. ((t.spacing_least, t.spacing_at_most), (t.deadline_least, t.deadline_most), (t.phases_least, t.phases_at_most)))
     (three (within_decides 1 spacing_most (S.T i)) (within_decides 1 (S.T i) (S.D i)) (within_decides 1 phases_most (S.m i))))
-    (restated
+    (Decides-like _
     (λ t. record { no_spacing = t.0; no_deadline = t.1; no_phases = t.2 })
     (λ t. (t.no_spacing, t.no_deadline, t.no_phases))
-    (three (eqb_decides (S.T i) 0) (eqb_decides (S.D i) 0) (eqb_decides (S.m i) 0)))
+    (three (Decides-eqb (S.T i) 0) (Decides-eqb (S.D i) 0) (Decides-eqb (S.m i) 0)))
 
 -- a table in range has few phases
 pub few_of : (S : Tasks) → InTable S → Few S
@@ -76,7 +78,7 @@ module _ (a : Arrays) (sized : Sized a) where
   pub table_decides : Decides (table_test S) (InTable S)
   unfolding table_test
   table_decides =
-      restated
+      Decides-like _
       (λ h. let tasks = h.0.0 in record {
         tasks = tasks.0;
         task = λ i l. (tasks.1 i (omega (arith, tasks.0))).0 l;
@@ -93,7 +95,7 @@ module _ (a : Arrays) (sized : Sized a) where
       ))
       (under _
       (under _
-      (both (leb_decides S.n tasks_most) (every 32 (task_test S) (λ i. (i < S.n → TaskIn S i) × (¬ (i < S.n) → NoTask S i)) (task_decides S)))
+      (Decides-and _ _ (leb_decides S.n tasks_most) (every 32 (task_test S) (λ i. (i < S.n → TaskIn S i) × (¬ (i < S.n) → NoTask S i)) (task_decides S)))
       (λ h. number_decides S (few h) 1 work_most a.work sized.work))
       (λ h. number_decides S (few h.0) 0 cost_most a.cost sized.cost))
 

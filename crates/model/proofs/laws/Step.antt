@@ -1,10 +1,10 @@
 -- One step of the judge's walk: from the choice that is least among those working below t, to the verdict at t.
 -- Assumes nothing.
 use Rattle.std.specs.Prelude.{◌≡◌, ◌⊎◌, true, false, ℕ, ◌≤◌, ◌<◌}
+use Rattle.std.proofs.lemmas.Bool.{le-ltb, lt-ltb, ltb-true}
 use Rattle.std.proofs.Common.{sym, inl, inr, le_refl, le_antisymm, le_of_eq, le_of_lt, eq-or-lt_of_le}
 use Rattle.std.proofs.Math.Nat.{le_trans}
 use native.Mathlib.Omega.{arith}
-use Rattle.finite.proofs.laws.Tests.{fails, ltb_decides}
 use Rattle.model.specs.Phase.{Choice, Phases}
 use Rattle.model.specs.Tasks.{Each, Tasks}
 use Rattle.model.specs.Verdict.{LeastBelow, NoneUpTo, margin}
@@ -15,13 +15,13 @@ use Rattle.model.proofs.laws.Phases.{Laws}
 use Rattle.model.proofs.laws.Raise.{SameHigh, Stage, stage_enough, stage_least, stage_room}
 
 above_true : (S : Tasks) {t i : ℕ} → t < S.D i → above S t i ≡ true
-above_true S {t} {i} d = (ltb_decides t (S.D i)).1 d
+above_true S {t} {i} d = lt-ltb t (S.D i) d
 
 true_above : (S : Tasks) {t i : ℕ} → above S t i ≡ true → t < S.D i
-true_above S {t} {i} e = (ltb_decides t (S.D i)).0 e
+true_above S {t} {i} e = ltb-true t (S.D i) e
 
 not_above : (S : Tasks) {t i : ℕ} → S.D i ≤ t → above S t i ≡ false
-not_above S {t} {i} d = fails (ltb_decides t (S.D i)) (omega arith)
+not_above S {t} {i} d = le-ltb t (S.D i) d
 
 module _ (S : Tasks) (P : Phases) (laws : Laws S P) where
   -- the demand at s goes by the tasks with D at most s

@@ -5,7 +5,9 @@ use Rattle.std.proofs.Common.{div-add-mod', arith}
 use Rattle.std.proofs.Math.Nat.{mul-mod_left}
 use Rattle.finite.specs.Finite.{sum_to}
 use Rattle.finite.proofs.laws.Searches.{any_decides}
-use Rattle.finite.proofs.laws.Tests.{Decides, and_decides, eqb_decides, fails, leb_decides}
+use Rattle.finite.proofs.laws.Tests.{fails, leb_decides}
+use Rattle.std.proofs.lemmas.Bool.Decides.{Decides-and, Decides-eqb}
+use Rattle.std.specs.Bool.{Decides}
 use Rattle.model.specs.Tasks.{Sane, Tasks}
 use Rattle.model.specs.TestPoints.{TestPoint, is_test, points}
 use Rattle.model.specs.Works.{Counted}
@@ -13,7 +15,7 @@ use Rattle.model.specs.Works.{Counted}
 on_time : (S : Tasks) → Sane S → (t i : ℕ) → i < S.n
     → Decides (leb (S.D i) t && eqb ((t - S.D i) % S.T i) 0) ((k : ℕ) × (t ≡ k * S.T i + S.D i))
 on_time S sane t i l =
-    let d = and_decides (leb (S.D i) t) (eqb ((t - S.D i) % S.T i) 0) (leb_decides (S.D i) t) (eqb_decides ((t - S.D i) % S.T i) 0) in
+    let d = Decides-and (leb (S.D i) t) (eqb ((t - S.D i) % S.T i) 0) (leb_decides (S.D i) t) (Decides-eqb ((t - S.D i) % S.T i) 0) in
     (λ e. there (d.0 e), λ h. d.1 (back h))
   where
     there : (S.D i ≤ t) × ((t - S.D i) % S.T i ≡ 0) → (k : ℕ) × (t ≡ k * S.T i + S.D i)

@@ -7,7 +7,8 @@ use Rattle.std.proofs.Math.Bool.{true, false}
 use Prim.Native.Nat.{ℕ, zero, suc, ◌+◌, ◌-◌, ◌≤◌, ◌<◌, suc-le-suc}
 use Rattle.std.proofs.Math.Nat.{le_step}
 use native.Mathlib.Omega.{arith}
-use Rattle.finite.proofs.laws.Tests.{Decides, failed, ltb_decides}
+use Rattle.std.proofs.lemmas.Bool.Decides.{Decides-ltb, not_from_Decides}
+use Rattle.std.specs.Bool.{Decides}
 use Rattle.model.specs.Phase.{Choice, Phases}
 use Rattle.model.specs.Tasks.{Sane, Tasks}
 use Rattle.model.specs.TestPoints.{TestPoint, is_test, points}
@@ -58,23 +59,23 @@ module _ (S : Tasks) (sane : Sane S) (P : Phases) (laws : Laws S P) where
         i = blocked_task S P t (t - demand_of S P x t)
 
         dec : Decides (ltb i S.n) (i < S.n)
-        dec = ltb_decides i S.n
+        dec = Decides-ltb i S.n
 
         go : (b : Bool) → ltb i S.n ≡ b → MoveOk S P x t (move_in S P x t (demand_of S P x t) i)
         go true e = rw (e, move_in) (test, refl, by_phase fits (first_blocked S P t (margin S P x t) (dec.0 e)))
         go false e =
-            rw (e, move_in) (test, raise_least S P laws x t (test_counted S t test) lb fits (nothing_blocked S P t (margin S P x t) (failed dec e)))
+            rw (e, move_in) (test, raise_least S P laws x t (test_counted S t test) lb fits (nothing_blocked S P t (margin S P x t) (not_from_Decides _ dec e)))
 
     move_at_ok : TestPoint S t → MoveOk S P x t (move_at S P x t (demand_of S P x t))
     unfolding move_at
     move_at_ok test = go (ltb t (demand_of S P x t)) refl
       where
         dec : Decides (ltb t (demand_of S P x t)) (t < demand_of S P x t)
-        dec = ltb_decides t (demand_of S P x t)
+        dec = Decides-ltb t (demand_of S P x t)
 
         go : (b : Bool) → ltb t (demand_of S P x t) ≡ b → MoveOk S P x t (move_at S P x t (demand_of S P x t))
         go true e = rw (e, move_at) (test, refl, by_demand (dec.0 e))
-        go false e = rw (e, move_at) (move_in_ok test (omega (arith, failed dec e)))
+        go false e = rw (e, move_at) (move_in_ok test (omega (arith, not_from_Decides _ dec e)))
 
     move_ok : MoveOk S P x t (move S P x t)
     unfolding move
@@ -82,7 +83,7 @@ module _ (S : Tasks) (sane : Sane S) (P : Phases) (laws : Laws S P) where
       where
         go : (b : Bool) → is_test S t ≡ b → MoveOk S P x t (move S P x t)
         go true e = rw (e, move) (move_at_ok ((is_test_decides S sane t).0 e))
-        go false e = rw (e, move) (failed (is_test_decides S sane t) e)
+        go false e = rw (e, move) (not_from_Decides _ (is_test_decides S sane t) e)
 
   -- one length further
   pub next_pass : (x : Choice) (s : ℕ) → ¬ TestPoint S (suc s) → LeastBelow S P (suc s) x → LeastBelow S P (suc (suc s)) x

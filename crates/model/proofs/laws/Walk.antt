@@ -4,7 +4,10 @@ use Rattle.std.specs.Prelude.{◌≡◌, Bool, true, false, ◌&&◌, ltb}
 use Prim.Native.Nat.{ℕ, ◌<◌}
 use Rattle.finite.specs.Finite.{Below, Some, any_to, find_to}
 use Rattle.finite.proofs.laws.Searches.{IsFirst, any_decides, find_first, first_none, first_some}
-use Rattle.finite.proofs.laws.Tests.{Decides, and_decides, failed, ltb_decides, not_decides, otherwise_true}
+use Rattle.finite.proofs.laws.Tests.{not_decides}
+use Rattle.std.proofs.lemmas.Bool.{true_from_ne_false}
+use Rattle.std.proofs.lemmas.Bool.Decides.{Decides-and, Decides-ltb, not_from_Decides}
+use Rattle.std.specs.Bool.{Decides}
 use Rattle.model.specs.Phase.{Choice, Phases}
 use Rattle.model.specs.Tasks.{Each, Tasks}
 use Rattle.model.specs.TestPoints.{TestPoint}
@@ -27,12 +30,12 @@ module _ (S : Tasks) (P : Phases) (t M : ℕ) where
 
   blocks_decides : (i : ℕ) → Decides (blocks i) ((t < S.D i) × Some (S.m i) (λ j. P.room i j M ≡ false))
   blocks_decides i =
-      and_decides (ltb t (S.D i)) (any_to (S.m i) (lacks P M i)) (ltb_decides t (S.D i))
+      Decides-and (ltb t (S.D i)) (any_to (S.m i) (lacks P M i)) (Decides-ltb t (S.D i))
       (any_decides (S.m i) (lacks P M i) (λ j. P.room i j M ≡ false) (λ j k. lacks_decides i j))
 
   -- a task that does not block has room for all its phases
   roomy_task : (i : ℕ) → blocks i ≡ false → t < S.D i → Below (S.m i) (λ j. P.room i j M ≡ true)
-  roomy_task i e d j k = otherwise_true (P.room i j M) (λ f. failed (blocks_decides i) e (d, (j, k, f)))
+  roomy_task i e d j k = true_from_ne_false (P.room i j M) (λ f. not_from_Decides _ (blocks_decides i) e (d, (j, k, f)))
 
   pub nothing_blocked : ¬ (blocked_task S P t M < S.n) → Each S (λ i j. t < S.D i → P.room i j M ≡ true)
   unfolding blocked_task
@@ -46,7 +49,7 @@ module _ (S : Tasks) (P : Phases) (t M : ℕ) where
     above = here.0;
     no_room = (lacks_decides i (find_to (S.m i) (lacks P M i))).0 (ph.found (first_some ph some_lack));
     earlier_tasks = λ a l. roomy_task a (tk.earlier a l);
-    earlier_phases = λ b l. otherwise_true (P.room i b M) (failed (lacks_decides i b) (ph.earlier b l));
+    earlier_phases = λ b l. true_from_ne_false (P.room i b M) (not_from_Decides _ (lacks_decides i b) (ph.earlier b l));
   }
     where
       i : ℕ
