@@ -10,7 +10,9 @@ use Rattle.std.proofs.Math.Dec.{leb}
 use Rattle.finite.specs.Finite.{Some, sum_to}
 use Rattle.finite.proofs.laws.Searches.{any_decides}
 use Rattle.finite.proofs.laws.Sums.{sum_but_at, sum_mono}
-use Rattle.finite.proofs.laws.Tests.{Decides, and_decides, by_cases, decided, leb_decides}
+use Rattle.finite.proofs.laws.Tests.{by_cases, decided, leb_decides}
+use Rattle.std.proofs.lemmas.Bool.Decides.{Decides-and}
+use Rattle.std.specs.Bool.{Decides}
 use Rattle.model.specs.Demand.{blocking, demand, jobs}
 use Rattle.model.proofs.laws.Demand.{blocking_upper}
 use Rattle.model.proofs.laws.Jobs.{jobs_after_one, jobs_before, jobs_from, jobs_mono}
@@ -158,7 +160,7 @@ module _ (τ : Terms) (w : Enough τ) where
       where
         due_decides : (j : ℕ) → Decides (s.busy j && leb (s.left j) L) (Due s L j)
         due_decides j =
-            let d = and_decides (s.busy j) (leb (s.left j) L) (λ e. e, λ e. e) (leb_decides (s.left j) L) in
+            let d = Decides-and (s.busy j) (leb (s.left j) L) (λ e. e, λ e. e) (leb_decides (s.left j) L) in
             (λ e. record { unfinished = (d.0 e).0; near = (d.0 e).1 }, λ q. d.1 (q.unfinished, q.near))
 
         less : total τ s' L ≤ total τ s L

@@ -1,14 +1,15 @@
 -- Admission by the rules is admission as the argument sees it.
 -- Assumes nothing.
 use Rattle.std.specs.Prelude.{ℕ, suc, ◌+◌, ◌-◌, ◌≤◌, ◌<◌, ◌≡◌, refl, Bool, true, false, cond, ◌&&◌, ◌||◌}
-use Rattle.std.proofs.Common.{sym, ◌∙◌, subst, subst₂, true≢false}
+use Rattle.std.proofs.Common.{sym, ap, ◌∙◌, subst, subst₂, true≢false}
 use Rattle.std.proofs.Math.Path.{ap₂}
 use Rattle.std.proofs.Math.Bool.{not}
 use native.Mathlib.Omega.{arith}
 use Rattle.std.proofs.Math.Dec.{ltb, leb}
 use borrow.Author.Tests.{ltb-true, leb-true, not-true}
 use Rattle.finite.specs.Finite.{sum_to}
-use Rattle.finite.proofs.laws.Tests.{and_both, by_cases, cond_false, cond_true}
+use Rattle.finite.proofs.laws.Tests.{by_cases}
+use Rattle.std.proofs.lemmas.Bool.{and_parts, cond-false, cond-true, or_left}
 use Rattle.model.specs.Phase.{Choice, phases_of}
 use Rattle.model.specs.Tasks.{Tasks}
 use Rattle.promise.specs.Rules.{State, admit, stated}
@@ -21,12 +22,6 @@ use Rattle.promise.proofs.laws.View.{Admitted, Ask, Entered, Unchanged}
 abbrev pub ask_of : Tasks → ℕ → (ℕ → Bool) → (ℕ → ℕ) → State → Ask
 ask_of S lag mask age s = record { let_in = lets_in_at S lag s mask age; age = age }
 
-pub or_true_left : (a b : Bool) → a ≡ true → (a || b) ≡ true
-or_true_left a b e = rw e
-
-pub or_false_left : (a b : Bool) → a ≡ false → (a || b) ≡ b
-or_false_left a b e = rw e
-
 -- what is known of a task that is let in
 pub record LetIn (S : Tasks) (lag : ℕ) (s : State) (age : ℕ → ℕ) (i : ℕ) : Type 0 where
   pub exists : i < S.n
@@ -38,11 +33,11 @@ module _ (S : Tasks) (lag : ℕ) where
   pub let_in_lem : (s : State) (mask : ℕ → Bool) (age : ℕ → ℕ) (i : ℕ) → lets_in_at S lag s mask age i ≡ true → LetIn S lag s age i
   unfolding lets_in_at
   let_in_lem s mask age i e =
-      let (e₀, heard) = and_both (mask i && ltb i S.n && not (s.busy i) && leb (S.T i + age i) (s.since i)) (leb (age i) lag) e in
-      let (e₁, apart) = and_both (mask i && ltb i S.n && not (s.busy i)) (leb (S.T i + age i) (s.since i)) e₀ in
-      let (e₂, idle) = and_both (mask i && ltb i S.n) (not (s.busy i)) e₁ in
+      let (e₀, heard) = and_parts (mask i && ltb i S.n && not (s.busy i) && leb (S.T i + age i) (s.since i)) (leb (age i) lag) e in
+      let (e₁, apart) = and_parts (mask i && ltb i S.n && not (s.busy i)) (leb (S.T i + age i) (s.since i)) e₀ in
+      let (e₂, idle) = and_parts (mask i && ltb i S.n) (not (s.busy i)) e₁ in
       record {
-        exists = ltb-true i S.n (and_both (mask i) (ltb i S.n) e₂).1;
+        exists = ltb-true i S.n (and_parts (mask i) (ltb i S.n) e₂).1;
         idle = not-true (s.busy i) idle;
         apart = leb-true (S.T i + age i) (s.since i) apart;
         heard = leb-true (age i) lag heard;
@@ -69,27 +64,27 @@ module _ (S : Tasks) (x : Choice) (ranged : (i : ℕ) → i < S.n → Ranged S x
               idle = λ'.idle;
               apart = λ'.apart;
               heard = λ'.heard;
-              busy = or_true_left (lets_in_at S lag s mask age i) (s.busy i) e;
-              since = cond_true (lets_in_at S lag s mask age i) (age i) (s.since i) e;
-              left = cond_true (lets_in_at S lag s mask age i) (S.D i - age i) (s.left i) e;
+              busy = or_left (lets_in_at S lag s mask age i) (s.busy i) e;
+              since = cond-true (lets_in_at S lag s mask age i) (age i) (s.since i) e;
+              left = cond-true (lets_in_at S lag s mask age i) (S.D i - age i) (s.left i) e;
               rem =
                   fresh_rem
                   i
                   (cond (lets_in_at S lag s mask age i) 1 (s.phase i))
                   (cond (lets_in_at S lag s mask age i) 1 (s.piece i))
                   (λ r. true≢false (sym (ok.runs i r).unfinished ∙ λ'.idle))
-                  (cond_true (lets_in_at S lag s mask age i) 1 (s.phase i) e)
-                  (cond_true (lets_in_at S lag s mask age i) 1 (s.piece i) e);
+                  (cond-true (lets_in_at S lag s mask age i) 1 (s.phase i) e)
+                  (cond-true (lets_in_at S lag s mask age i) 1 (s.piece i) e);
             }
 
         keeps : (i : ℕ) → i < S.n → lets_in_at S lag s mask age i ≡ false → Unchanged (view S x s) (view S x (admit_at S lag mask age s)) i
         keeps i l e =
-            let ph : cond (lets_in_at S lag s mask age i) 1 (s.phase i) ≡ s.phase i = cond_false (lets_in_at S lag s mask age i) 1 (s.phase i) e in
-            let pc : cond (lets_in_at S lag s mask age i) 1 (s.piece i) ≡ s.piece i = cond_false (lets_in_at S lag s mask age i) 1 (s.piece i) e in
+            let ph : cond (lets_in_at S lag s mask age i) 1 (s.phase i) ≡ s.phase i = cond-false (lets_in_at S lag s mask age i) 1 (s.phase i) e in
+            let pc : cond (lets_in_at S lag s mask age i) 1 (s.piece i) ≡ s.piece i = cond-false (lets_in_at S lag s mask age i) 1 (s.piece i) e in
             record {
-              busy = or_false_left (lets_in_at S lag s mask age i) (s.busy i) e;
-              since = cond_false (lets_in_at S lag s mask age i) (age i) (s.since i) e;
-              left = cond_false (lets_in_at S lag s mask age i) (S.D i - age i) (s.left i) e;
+              busy = ap (λ (v : Bool). v || s.busy i) e;
+              since = cond-false (lets_in_at S lag s mask age i) (age i) (s.since i) e;
+              left = cond-false (lets_in_at S lag s mask age i) (S.D i - age i) (s.left i) e;
               rem = ap₂ (remaining S x s.run s.ticks i) ph pc;
             }
 
@@ -117,8 +112,8 @@ module _ (S : Tasks) (x : Choice) (ranged : (i : ℕ) → i < S.n → Ranged S x
               most =
                   subst₂
                   (λ a b. s.ticks ≤ stated S x j a b)
-                  (sym (cond_false (lets_in_at S lag s mask age j) 1 (s.phase j) out))
-                  (sym (cond_false (lets_in_at S lag s mask age j) 1 (s.piece j) out))
+                  (sym (cond-false (lets_in_at S lag s mask age j) 1 (s.phase j) out))
+                  (sym (cond-false (lets_in_at S lag s mask age j) 1 (s.piece j) out))
                   ρ.most;
             }
 

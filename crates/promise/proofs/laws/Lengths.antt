@@ -5,7 +5,8 @@ use Rattle.std.proofs.Math.Path.{refl}
 use Rattle.std.proofs.Common.{sym, ap, ap₂, ◌∙◌, true≢false, arith, leb-true, leb-false, eq-eqb, ne_eqb}
 use Rattle.std.proofs.Math.Bool.{true, false}
 use Rattle.std.proofs.Math.Dec.{leb, eqb-suc-zero}
-use Rattle.finite.proofs.laws.Tests.{by_cases, cond_false}
+use Rattle.finite.proofs.laws.Tests.{by_cases}
+use Rattle.std.proofs.lemmas.Bool.{cond-false}
 use Rattle.model.specs.Phase.{Choice}
 use Rattle.model.specs.Tasks.{Tasks}
 use Rattle.promise.specs.Rules.{PieceOutcome, State, after, done, ends_of, next_phase, next_piece, on, outcome, start, stated, work_at}
@@ -32,7 +33,7 @@ module _ (S : Tasks) (x : Choice) (lag : ℕ) where
         running j r =
             let out : lets_in_at S lag s mask age j ≡ false = not_in S lag s mask age j (ok.runs j r).unfinished in
             iu.running j r ∙
-            sym (ap₂ (stated S x j) (cond_false (lets_in_at S lag s mask age j) 1 (s.phase j) out) (cond_false (lets_in_at S lag s mask age j) 1 (s.piece j) out))
+            sym (ap₂ (stated S x j) (cond-false (lets_in_at S lag s mask age j) 1 (s.phase j) out) (cond-false (lets_in_at S lag s mask age j) 1 (s.piece j) out))
 
     start_use : (s : State) → InUse S x s used → s.run ≡ 0 → (b : ℕ) → InUse S x (start S x s b) used
     start_use s iu e zero = iu

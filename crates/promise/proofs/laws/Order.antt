@@ -15,7 +15,6 @@ use Rattle.promise.specs.Promise.{FinishesIn, InOrder}
 use Rattle.promise.specs.Rules.{Answer, State, outcome, stated, work_at}
 use Rattle.promise.proofs.laws.Answers.{AnswersAt, answer_at_lem, answer_lets, answer_pass, answer_ran, pick_running}
 use Rattle.promise.proofs.laws.Busy.{Stays, pick_busy, work_stays}
-use Rattle.promise.proofs.laws.Entering.{or_false_left}
 use Rattle.promise.specs.laws.Late.{Chooses, LateRequest, ageless, late_answer_at, late_record_at, lets_in_at}
 use Rattle.promise.proofs.laws.Lengths.{InUse, goes_on_running, picked_use, use_ends, use_less, worked_use}
 use Rattle.promise.proofs.laws.Places.{InPlace, here_place, last_ends, picked_places, place_alike, placed, worked_places}
@@ -126,7 +125,7 @@ module _ (S : Tasks) (x : Choice) (ranged : (i : ℕ) → i < S.n → Ranged S x
 
   was_busy : (t i : ℕ) → (now t).busy i ≡ true → lets t i ≡ false → (before t).busy i ≡ true
   was_busy t i b e =
-      sym (or_false_left (lets t i) ((before t).busy i) e) ∙
+      sym (ap (λ (v : Bool). v || (before t).busy i) e) ∙
       sym (pick_busy S x choose (entered_at S x lag choose ask t) i) ∙
       b
 

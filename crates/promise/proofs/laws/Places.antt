@@ -3,8 +3,7 @@
 use Rattle.std.specs.Prelude.{ℕ, zero, suc, ◌+◌, ◌-◌, ◌≡◌, refl, Bool, true, false, cond, not, ◌&&◌, ◌||◌, ltb, eqb}
 use Rattle.std.proofs.Common.{sym, ap, ap₂, ◌∙◌, subst, true≢false, arith, lt-ltb, le-ltb, eq-eqb, ne_eqb}
 use Rattle.std.proofs.Math.Decide.{ℕ_discrete}
-use Rattle.std.proofs.lemmas.Bool.{not-true, not-false}
-use Rattle.finite.proofs.laws.Tests.{cond_false, cond_true}
+use Rattle.std.proofs.lemmas.Bool.{not-true, not-false, cond-false, cond-true}
 use Rattle.model.specs.Phase.{Choice}
 use Rattle.model.specs.Tasks.{Tasks}
 use Rattle.promise.specs.History.{Place, first_place, last_place, next_place}
@@ -73,17 +72,17 @@ module _ (S : Tasks) (x : Choice) (lag : ℕ) where
     own on h = here_place
     own next_piece h =
         ap (next_place S x j) here_place ∙
-        cond_true (ltb (s.piece j) (x j (s.phase j - 1))) _ _ (lt-ltb (s.piece j) (x j (s.phase j - 1)) h.1) ∙
+        cond-true (ltb (s.piece j) (x j (s.phase j - 1))) _ _ (lt-ltb (s.piece j) (x j (s.phase j - 1)) h.1) ∙
         place_alike refl (sym (put_same s.piece j (s.piece j + 1)))
     own next_phase h =
         ap (next_place S x j) here_place ∙
-        cond_false (ltb (s.piece j) (x j (s.phase j - 1))) _ _ (le-ltb (s.piece j) (x j (s.phase j - 1)) h.1) ∙
-        cond_true (ltb (s.phase j) (S.m j)) _ _ (lt-ltb (s.phase j) (S.m j) h.2) ∙
+        cond-false (ltb (s.piece j) (x j (s.phase j - 1))) _ _ (le-ltb (s.piece j) (x j (s.phase j - 1)) h.1) ∙
+        cond-true (ltb (s.phase j) (S.m j)) _ _ (lt-ltb (s.phase j) (S.m j) h.2) ∙
         place_alike (sym (put_same s.phase j (s.phase j + 1))) (sym (put_same s.piece j 1))
     own done h =
         ap (next_place S x j) here_place ∙
-        cond_false (ltb (s.piece j) (x j (s.phase j - 1))) _ _ (le-ltb (s.piece j) (x j (s.phase j - 1)) h.1) ∙
-        cond_false (ltb (s.phase j) (S.m j)) _ _ (le-ltb (s.phase j) (S.m j) h.2)
+        cond-false (ltb (s.piece j) (x j (s.phase j - 1))) _ _ (le-ltb (s.piece j) (x j (s.phase j - 1)) h.1) ∙
+        cond-false (ltb (s.phase j) (S.m j)) _ _ (le-ltb (s.phase j) (S.m j) h.2)
 
     -- a job finishes where its last piece ends
     pub last_ends : (o : PieceOutcome) → OutcomeOf S x flag s j o → finishes_of o ≡ (ends_of o && last_place S x j (place j))
@@ -113,7 +112,7 @@ module _ (S : Tasks) (x : Choice) (lag : ℕ) where
             subst
             (λ i. placed S x (suc j) (ends_of o) place i ≡ record { phase = (after s j o).phase i; piece = (after s j o).piece i })
             (sym q)
-            (moves (ends_of o) ∙ own o h ∙ cond_false (finishes_of o) _ _ (not-true (finishes_of o) (sym (busy_own o) ∙ subst (λ i. (after s j o).busy i ≡ true) q b)))
+            (moves (ends_of o) ∙ own o h ∙ cond-false (finishes_of o) _ _ (not-true (finishes_of o) (sym (busy_own o) ∙ subst (λ i. (after s j o).busy i ≡ true) q b)))
 
         idle : (i : ℕ) → (after s j o).busy i ≡ false → Dec (i ≡ j) → placed S x (suc j) (ends_of o) place i ≡ first_place
         idle i b (no q) = stays (ends_of o) i q ∙ ip.idle i (sym (other_fields s j o i q).0 ∙ b)
@@ -121,7 +120,7 @@ module _ (S : Tasks) (x : Choice) (lag : ℕ) where
             subst
             (λ i. placed S x (suc j) (ends_of o) place i ≡ first_place)
             (sym q)
-            (moves (ends_of o) ∙ own o h ∙ cond_true (finishes_of o) _ _ (not-false (finishes_of o) (sym (busy_own o) ∙ subst (λ i. (after s j o).busy i ≡ false) q b)))
+            (moves (ends_of o) ∙ own o h ∙ cond-true (finishes_of o) _ _ (not-false (finishes_of o) (sym (busy_own o) ∙ subst (λ i. (after s j o).busy i ≡ false) q b)))
 
   -- the places after a tick
   pub worked_places : (s : State) → Proper S x s → (place : ℕ → Place) → InPlace s place → (flag : Bool) (r : ℕ) → s.run ≡ r

@@ -7,7 +7,7 @@ use native.Mathlib.Omega.{arith}
 use Rattle.finite.specs.Finite.{sum_to}
 use Rattle.finite.proofs.laws.Extremes.{max_upper}
 use Rattle.finite.proofs.laws.Sums.{sum_grow, sum_last}
-use Rattle.finite.proofs.laws.Tests.{cond_false, cond_true}
+use Rattle.std.proofs.lemmas.Bool.{cond-false, cond-true}
 use Rattle.model.specs.Phase.{Choice, brings, phases_of}
 use Rattle.model.specs.Tasks.{Tasks}
 use Rattle.model.specs.Works.{longest}
@@ -127,7 +127,7 @@ pub record Proper (S : Tasks) (x : Choice) (s : State) : Type 0 where
   pub runs : (j : ℕ) → s.run ≡ suc j → RunsAt S x s j
 
 pub put_same : {A : Type 0} (f : ℕ → A) (j : ℕ) (v : A) → put f j v j ≡ v
-put_same f j v = cond_true (eqb j j) v (f j) (eq-eqb j j refl)
+put_same f j v = cond-true (eqb j j) v (f j) (eq-eqb j j refl)
 
 pub put_other : {A : Type 0} (f : ℕ → A) (j : ℕ) (v : A) (i : ℕ) → (i ≡ j → ⊥) → put f j v i ≡ f i
-put_other f j v i q = cond_false (eqb i j) v (f i) (ne_eqb i j q)
+put_other f j v i q = cond-false (eqb i j) v (f i) (ne_eqb i j q)

@@ -1,8 +1,9 @@
 -- DOCUMENT 01'S RULES ARE AN INSTANCE of the general ones: no lag, ages 0, and the choice `best` give every record and every answer.
 -- Assumes nothing.
 use Prim.Native.Nat.{ℕ, zero, suc, ◌+◌, ◌-◌, min}
-use Rattle.std.specs.Prelude.{◌≡◌, refl, Bool, true, false, cond, ◌&&◌, ◌||◌}
+use Rattle.std.specs.Prelude.{◌≡◌, refl, Bool, cond, ◌||◌}
 use Rattle.std.proofs.Math.Path.{ap, fun_ext}
+use Rattle.std.proofs.Math.Bool.{and-true}
 use Rattle.std.proofs.Common.{ap₂, ◌∙◌}
 use native.Mathlib.Omega.{arith}
 use borrow.Author.Tests.{le-leb}
@@ -17,16 +18,12 @@ use Rattle.promise.proofs.laws.Urgent.{best_of}
 abbrev pub fresh : Request → LateRequest
 fresh r = record { mask = r.mask; age = λ i. 0; flag = r.flag }
 
-and_true : (a : Bool) → (a && true) ≡ a
-and_true true = refl
-and_true false = refl
-
 module _ (S : Tasks) (x : Choice) where
   pub today_lets : (s : State) (mask : ℕ → Bool) → lets_in_at S 0 s mask (λ i. 0) ≡ lets_in S s mask
   unfolding lets_in_at lets_in
   today_lets s mask = fun_ext (λ i.
       let t : S.T i + 0 ≡ S.T i = omega arith in
-      rw (t, le-leb 0 0 (omega arith)) (and_true (lets_in S s mask i)))
+      rw (t, le-leb 0 0 (omega arith)) (and-true (lets_in S s mask i)))
 
   pub today_admit : (s : State) (mask : ℕ → Bool) → admit_at S 0 mask (λ i. 0) s ≡ admit S mask s
   today_admit s mask =

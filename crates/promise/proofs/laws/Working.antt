@@ -7,10 +7,10 @@ use Rattle.std.proofs.Math.Bool.{true, false}
 use Rattle.std.proofs.Math.Decide.{ℕ_discrete}
 use Rattle.std.proofs.Math.Dec.{leb}
 use borrow.Author.Tests.{ltb-true, ltb-false, leb-true, leb-false}
+use Rattle.std.proofs.lemmas.Bool.{or_parts}
 use Rattle.model.specs.Phase.{Choice, phases_of}
 use Rattle.model.specs.Tasks.{Tasks}
 use Rattle.promise.specs.Rules.{PieceOutcome, State, after, done, ends_of, finishes_of, next_phase, next_piece, on, outcome, work_at}
-use Rattle.promise.proofs.laws.Entering.{or_false_left}
 use Rattle.promise.proofs.laws.Remaining.{At, Proper, Ranged, RunsAt, finished_all, finished_most, finished_next, finished_phase, finished_work, put_other, put_same, remaining, remaining_not, remaining_run, stated_some, terms, view}
 use Rattle.promise.proofs.laws.View.{GoesOn, Pass, Unchanged, Unfinished, Used, Worked, idles, works}
 
@@ -42,15 +42,11 @@ module _ (S : Tasks) (x : Choice) where
       (flag || leb s.ticks 1)
       (ltb (s.piece j) (x j (s.phase j - 1)))
       (ltb (s.phase j) (S.m j))
-      (λ e. leb-false s.ticks 1 (or_false flag (leb s.ticks 1) e))
-      (λ e f. leb-true s.ticks 1 (sym (or_false_left flag (leb s.ticks 1) f) ∙ e))
+      (λ e. leb-false s.ticks 1 (or_parts flag (leb s.ticks 1) e).1)
+      (λ e f. leb-true s.ticks 1 (sym (ap (λ (v : Bool). v || leb s.ticks 1) f) ∙ e))
       refl
       refl
     where
-      or_false : (a b : Bool) → (a || b) ≡ false → b ≡ false
-      or_false true b e = absurd (true≢false e)
-      or_false false b e = e
-
       go : (v y z : Bool) → (v ≡ false → 2 ≤ s.ticks) → (v ≡ true → flag ≡ false → s.ticks ≤ 1) → ltb (s.piece j) (x j (s.phase j - 1)) ≡ y
           → ltb (s.phase j) (S.m j) ≡ z → OutcomeOf flag s j (cond v (cond y next_piece (cond z next_phase done)) on)
       go false y z a b c d = a refl
