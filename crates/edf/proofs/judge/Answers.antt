@@ -1,19 +1,19 @@
 -- `judge` meets its contract: what the reader says is passed on, and a table that was read is judged and answered. Assumes nothing.
 use borrow.Author.Rules.{rules}
-use Rattle.edf.proofs.Saying.{short_judges, turned_away, valid_table, its_horizon, judged_and_said}
+use Rattle.edf.proofs.Saying.{short_judges, not_read, valid_table, its_horizon, judged_and_said}
 use Rattle.edf.proofs.judge.Goals as goal
 
-pub returns-then-answer-lt-ANSWER_ROOM : goal.returns-then-answer-lt-ANSWER_ROOM
-returns-then-answer-lt-ANSWER_ROOM c = search (rules, short_judges)
-
-pub judge-requires : goal.judge-requires
-judge-requires c = search (rules, valid_table, its_horizon)
+pub judge-judged-requires : goal.judge-judged-requires
+judge-judged-requires c = (valid_table _ c.in_ok-read.ensures, its_horizon _ c.in_ok-read.ensures)
 
 pub say-requires : goal.say-requires
 say-requires c = search (rules, valid_table)
 
-pub returns-in-TurnedAway : goal.returns-in-TurnedAway
-returns-in-TurnedAway c = search (rules, turned_away)
+pub returns-then-answer-lt-ANSWER_ROOM : goal.returns-then-answer-lt-ANSWER_ROOM
+returns-then-answer-lt-ANSWER_ROOM c = search (rules, short_judges)
 
-pub returns-in-Read : goal.returns-in-Read
-returns-in-Read c = search (rules, judged_and_said)
+pub returns-in_err-read : goal.returns-in_err-read
+returns-in_err-read c = search (rules, not_read)
+
+pub returns : goal.returns
+returns c = search (rules, judged_and_said)
