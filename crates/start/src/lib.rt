@@ -7,16 +7,25 @@ ghost use Rattle.walk.specs.Judge.{WalkJudges};
 ghost use Rattle.start.specs.Start.{Begins, Starts};
 
 use records::{Dispatcher, ready};
-use table::Table;
+use table::{Table, TurnedAway};
 use walk::judge::Judged;
 
-// The dispatcher is ready; or the table is refused, with the witness, the demand there, the points examined, and the blocked task and phase; or it
-// is turned away, with the reason and the place.
-#[derive(Clone, Copy)]
+// Why a table is refused: the witness, the demand there, the points examined, and the blocked task and phase.
+#[derive(Clone, Copy, Debug, PartialEq, Eq)]
+pub struct Refusal {
+    pub witness: u64,
+    pub demand: u64,
+    pub points: u64,
+    pub task: u32,
+    pub phase: u32,
+}
+
+// The dispatcher is ready; or the table is refused; or it is turned away.
+#[derive(Clone, Copy, Debug, PartialEq, Eq)]
 pub enum How {
     Ready,
-    Refused(u64, u64, u64, u32, u32),
-    TurnedAway(u8, usize),
+    Refused(Refusal),
+    TurnedAway(TurnedAway),
 }
 
 // How the dispatcher was started, and its record: the record to start with, or the empty one where the table is refused or turned away.
@@ -32,16 +41,22 @@ fn begun(read: Table, judged: Judged) -> Started
     ensures { Begins (tasks_of read) result }
 {
     if judged.accepted {
-        let counts = judged.counts;
         return Started {
             how: How::Ready,
-            dispatcher: ready(read, counts),
+            dispatcher: ready(read, judged.counts),
         };
     }
     let task = judged.task as u32;
     let phase = judged.phase as u32;
+    let refusal = Refusal {
+        witness: judged.witness,
+        demand: judged.demand,
+        points: judged.points,
+        task,
+        phase,
+    };
     Started {
-        how: How::Refused(judged.witness, judged.demand, judged.points, task, phase),
+        how: How::Refused(refusal),
         dispatcher: Dispatcher::empty(),
     }
 }
@@ -50,16 +65,11 @@ fn begun(read: Table, judged: Judged) -> Started
 pub fn start(table: &[u8]) -> Started
     ensures { Starts table.now result }
 {
-    let reading = table::read(table);
-    let outcome = reading.outcome;
-    match outcome {
-        table::ReadOutcome::TurnedAway(reason, place) => Started {
-            how: How::TurnedAway(reason, place),
+    match table::read(table) {
+        Ok(read) => begun(read.table, walk::judge::judge(read.table, read.horizon)),
+        Err(away) => Started {
+            how: How::TurnedAway(away),
             dispatcher: Dispatcher::empty(),
         },
-        table::ReadOutcome::Read(horizon) => {
-            let read = reading.table;
-            begun(read, walk::judge::judge(read, horizon))
-        }
     }
 }

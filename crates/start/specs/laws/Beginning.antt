@@ -11,7 +11,7 @@ use Rattle.model.specs.TestPoints.{horizon_of}
 use Rattle.model.specs.Verdict.{Same, Verdict, accepted, refused}
 use Rattle.model.proofs.laws.Plain.{laws_of}
 use Rattle.model.proofs.laws.Unique.{judged_unique}
-use Rattle.start.specs.Start.{Begins, StartedOn, Starts, used}
+use Rattle.start.specs.Start.{Begins, StartedOn, Starts, refusal, used}
 use Rattle.start.specs.declared.How.{How}
 use Rattle.start.specs.declared.How.TheVariants.{Ready, Refused, TurnedAway}
 use Rattle.start.specs.declared.Started.{Started}
@@ -19,6 +19,7 @@ use Rattle.start.specs.laws.Counts.{all_used}
 use Rattle.table.proofs.Valid.{read_valid}
 use Rattle.table.specs.Parse.{Result, away, got, table}
 use Rattle.table.specs.TaskModel.{tasks_of}
+use Rattle.table.specs.declared.Reason.{Reason}
 use Rattle.table.specs.declared.Table.{Table}
 use Rattle.walk.proofs.Limits.{table_sane}
 use Rattle.walk.specs.Judge.{Accepts, Refuses, WalkJudges, accepts, refuses}
@@ -42,7 +43,7 @@ module _ (S : Tasks) (v : Judged) (r : Started) where
     started = (how, d ∙ ap (ready_record S) (sym (all_used S v.counts a.no_task a.no_phase)));
   }
 
-  pub refused_begins : Refuses S v → r.how ≡ Refused v.witness v.demand v.points v.task v.phase → r.dispatcher ≡ empty_record
+  pub refused_begins : Refuses S v → r.how ≡ Refused (refusal v.witness v.demand v.points v.task v.phase) → r.dispatcher ≡ empty_record
       → Begins S r
   refused_begins b how d = record {
     verdict = refused v.witness v.demand v.points v.task v.phase;
@@ -72,7 +73,7 @@ module _ (S : Tasks) (sane : Sane S) (r s : Started) where
   same_start (refused w d p i j) (refused w' d' p' i' j') (ew, ed, ep, ei, ej) a b =
       same_started r s (a.0 ∙ numbers ∙ sym b.0) (a.1 ∙ sym b.1)
     where
-      numbers : ◌≡◌ {A = How} (Refused w d p i j) (Refused w' d' p' i' j')
+      numbers : ◌≡◌ {A = How} (Refused (refusal w d p i j)) (Refused (refusal w' d' p' i' j'))
       numbers = cc
 
   begins_one : Begins S r → Begins S s → r ≡ s
@@ -93,11 +94,11 @@ starts_one bytes r s a b = go (table bytes 0) refl
 
 -- ---- the whole call
 
-pub away_starts : {bytes : List ℕ} {reason place : ℕ} {r : Started} → table bytes 0 ≡ away reason place → r.how ≡ TurnedAway reason place → r.dispatcher ≡ empty_record
-    → Starts bytes r
+pub away_starts : {bytes : List ℕ} {reason : Reason} {place : ℕ} {r : Started} → table bytes 0 ≡ away reason place → r.how ≡ TurnedAway (record { reason = reason; place = place })
+    → r.dispatcher ≡ empty_record → Starts bytes r
 away_starts {bytes} {reason} {place} {r} e how d = record {
   turned_away = λ reason' place' f.
-      let same : ◌≡◌ {A = How} (TurnedAway reason place) (TurnedAway reason' place') = cc in
+      let same : ◌≡◌ {A = How} (TurnedAway (record { reason = reason; place = place })) (TurnedAway (record { reason = reason'; place = place' })) = cc in
       (how ∙ same, d);
   read = λ t next f. let z : ◌≡◌ {A = ℕ} 0 1 = cc in absurd (omega arith);
 }
