@@ -4,7 +4,7 @@
 use std::io::{self, Write};
 
 // One input, whole.
-fn run<W: Write>(out: &mut W, input: &[u8]) -> io::Result<()> {
+fn replay<W: Write>(out: &mut W, input: &[u8]) -> io::Result<()> {
     let r = show_run::begin(out, input)?;
     let at = r.used;
     if r.going {
@@ -14,17 +14,9 @@ fn run<W: Write>(out: &mut W, input: &[u8]) -> io::Result<()> {
     Ok(())
 }
 
-// Every case. It is told where the last was cut.
 fn main(rt: HostRuntime) -> io::Result<()> {
-    let mut input = rt.stdin();
     let mut out = rt.stdout();
     let mut buffer = [0u8; 65_536];
-    let mut case = cases::first(&mut input, &mut buffer)?;
-    while 0 < case.left {
-        let length = case.length;
-        run(&mut out, &buffer[..length])?;
-        case = cases::next(&mut input, case, &mut buffer)?;
-    }
-    cases::finish(&mut out, case)?;
+    cases::each(&mut rt.stdin(), &mut out, &mut buffer, replay)?;
     out.flush()
 }
