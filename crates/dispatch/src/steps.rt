@@ -5,9 +5,9 @@ ghost use Rattle.records.specs.Ranges.{in_range};
 ghost use Rattle.dispatch.specs.Steps.{Admits, Elapses, Picks, WorksOn};
 ghost use Rattle.dispatch.specs.laws.Working.{told_of};
 
-use arrays::numbers::{down, either, from_one, up_to};
-use arrays::rules::{Due, due_piece, due_ticks, let_in, urgent};
+use arrays::numbers::{choose, from_one};
 use records::Dispatcher;
+use records::rules::Due;
 
 // What step 1 gives: the record after it, and the mask of the bits let in.
 #[derive(Clone, Copy)]
@@ -38,14 +38,8 @@ pub fn admit(mut held: Dispatcher, asked: u32) -> Admitted
     requires { in_range held ≡ true }
     ensures { Admits held asked result.next result.let_in }
 {
-    let let_in = let_in(
-        held.tasks,
-        &held.spacing,
-        &held.since,
-        &held.unfinished,
-        asked,
-    );
-    for i in 0usize..32 {
+    let let_in = held.let_in(asked);
+    for i in 0..32 {
         if (let_in >> i) % 2 == 1 {
             held.since[i] = 0;
             held.unfinished[i] = 1;
@@ -63,16 +57,9 @@ pub fn pick(mut held: Dispatcher) -> Dispatcher
     ensures { Picks held result }
 {
     if held.running == 0 {
-        let task = urgent(&held.unfinished, &held.left);
+        let task = held.urgent();
         if task != 0 {
-            let ticks = due_ticks(
-                &held.phase,
-                &held.piece,
-                &held.work,
-                &held.cost,
-                &held.counts,
-                task,
-            );
+            let ticks = held.due_ticks(task);
             held.running = task;
             held.ticks = ticks;
         }
@@ -88,8 +75,8 @@ fn told(due: Due, ended: bool) -> Ran
     let goes_on = (due.piece < due.pieces) | (due.phase < due.phases);
     Ran {
         task: due.task,
-        phase: either(none, 0, due.phase),
-        piece: either(none, 0, due.piece),
+        phase: choose(none, 0, due.phase),
+        piece: choose(none, 0, due.piece),
         ended,
         finished: ended & !goes_on,
     }
@@ -101,11 +88,12 @@ pub fn work(mut held: Dispatcher, flag: bool) -> Worked
     ensures { WorksOn held flag result.next result.ran }
 {
     let task = held.running;
-    let due = due_piece(&held.phases, &held.counts, &held.phase, &held.piece, task);
+    let due = held.due_piece(task);
     let ended = (task != 0) & (flag | (held.ticks <= 1));
     let ran = told(due, ended);
     let i = from_one(task);
     if ended {
+        prove!(i < 32);
         held.running = 0;
         held.ticks = 0;
         if due.piece < due.pieces {
@@ -130,9 +118,9 @@ pub fn elapse(mut held: Dispatcher) -> Dispatcher
     requires { in_range held ≡ true }
     ensures { Elapses held result }
 {
-    for i in 0usize..32 {
-        held.since[i] = up_to(held.since[i], held.spacing[i]);
-        held.left[i] = down(held.left[i]);
+    for i in 0..32 {
+        held.since[i] = (held.since[i] + 1).min(held.spacing[i]);
+        held.left[i] = held.left[i].saturating_sub(1);
     }
     held
 }

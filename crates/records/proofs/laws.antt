@@ -1,4 +1,5 @@
 -- What is proved of the definitions in specs/.
+pub mod Rules
 pub mod Fields
 pub mod Held
 pub mod Lent

@@ -3,4 +3,5 @@ pub mod Record
 pub mod Ranges
 pub mod Taken
 pub mod Start
+pub mod Rules
 pub mod Lent

@@ -1,7 +1,8 @@
-// The dispatcher's record, held by value: the empty one, the one to start with, and the test of its range.
+// The dispatcher's record, held by value: the empty one, the one to start with, the test of its range, and the tick's rules on it.
 #![tactic(auto)]
 
 mod ranges;
+pub mod rules;
 
 ghost use Rattle.std.specs.Prelude.{◌≡◌, ◌≤◌};
 ghost use Rattle.model.specs.Arrays.{phase_at};
@@ -11,12 +12,12 @@ ghost use Rattle.records.specs.Start.{ready_record};
 ghost use Rattle.records.specs.Taken.{Taken};
 ghost use Rattle.table.specs.TaskModel.{tasks_of};
 
-use crate::ranges::{changing_in, held_in, running_in};
 use table::Table;
 
 // The record. T, D and the number of phases of each task; c, q and the count of each phase, eight places for each task; then what a tick changes:
 // the ticks since the last admitted release, whether a job is unfinished (1, else 0), its time left, its phase and piece; the running task and the
-// ticks left of its piece.
+// ticks left of its piece. C lends its memory, so that every bit pattern there has to be a record: whether a job is unfinished is a number, and tasks,
+// phases and pieces are numbered from 1, with 0 for none (docs/DECISIONS, 13).
 #[repr(C)]
 #[derive(Clone, Copy)]
 pub struct Dispatcher {
@@ -65,71 +66,33 @@ impl Dispatcher {
 
 // The record to start with: nothing is unfinished, and every task may release at once. (A layer's own call: the table was read, and the counts are
 // those of its judge.)
-pub fn ready(table: Table, counts: [u32; 256]) -> Dispatcher
-    requires { table.tasks ≤ tasks_most }
-    ensures { result ≡ ready_record (tasks_of table) (phase_at counts) }
+pub fn ready(table: &Table, counts: &[u32; 256]) -> Dispatcher
+    requires { table.now.tasks ≤ tasks_most }
+    ensures { result ≡ ready_record (tasks_of table.now) (phase_at counts.now) }
 {
-    let tasks = table.tasks as u32;
-    let spacing = table.spacing;
-    let deadline = table.deadline;
-    let phases = table.phases;
-    let work = table.work;
-    let cost = table.cost;
     Dispatcher {
-        tasks,
-        spacing,
-        deadline,
-        phases,
-        work,
-        cost,
-        counts,
-        since: spacing,
-        unfinished: [0; 32],
-        left: [0; 32],
-        phase: [0; 32],
-        piece: [0; 32],
-        running: 0,
-        ticks: 0,
+        tasks: table.tasks as u32,
+        spacing: table.spacing,
+        deadline: table.deadline,
+        phases: table.phases,
+        work: table.work,
+        cost: table.cost,
+        counts: *counts,
+        since: table.spacing,
+        ..Dispatcher::EMPTY
     }
 }
 
-// What a record is taken as: itself where every field is in its range, else the empty record. The test stands here and not in a call of its own, which
-// would copy the record once more.
+// What a record is taken as: itself where every field is in its range, else the empty record. The test stands here and not in a call of its own, and
+// only the empty record is written: as `if .. { given } else { .. }` each tick would copy the record once more and clear another.
 pub fn taken(mut given: Dispatcher) -> Dispatcher
     ensures { Taken given result }
 {
-    let runs = running_in(
-        given.running,
-        given.tasks,
-        given.ticks,
-        &given.unfinished,
-        &given.phase,
-        &given.piece,
-        &given.work,
-        &given.cost,
-        &given.counts,
-    );
-    let held = held_in(
-        given.tasks,
-        &given.spacing,
-        &given.deadline,
-        &given.phases,
-        &given.work,
-        &given.cost,
-        &given.counts,
-    );
-    let changing = changing_in(
-        &given.spacing,
-        &given.deadline,
-        &given.phases,
-        &given.counts,
-        &given.since,
-        &given.unfinished,
-        &given.left,
-        &given.phase,
-        &given.piece,
-    );
-    if !(held & changing & runs) {
+    let held = given.held_in();
+    let changing = given.changing_in();
+    let runs = given.running_in();
+    let in_range = held & changing & runs;
+    if !in_range {
         given = Dispatcher::empty();
     }
     given

@@ -43,7 +43,7 @@ fn begun(read: Table, judged: Judged) -> Started
     if judged.accepted {
         return Started {
             how: How::Ready,
-            dispatcher: ready(read, judged.counts),
+            dispatcher: ready(&read, &judged.counts),
         };
     }
     let task = judged.task as u32;

@@ -5,12 +5,12 @@ use Rattle.std.proofs.Math.Path.{refl, ap}
 use Rattle.std.proofs.Common.{sym, ◌∙◌}
 use Rattle.std.proofs.Math.Bool.{true, false}
 use Rattle.finite.specs.Masks.{bit, digit, mask_of}
-use Rattle.arrays.specs.Rules as array
 use Rattle.finite.proofs.laws.Masks.{bit_mask_of}
 use Rattle.finite.proofs.laws.Lists.{filled_more}
 use Rattle.finite.proofs.laws.Tests.{cond_false, cond_true}
 use Rattle.promise.specs.Rules.{State, admit, lets_in}
 use Rattle.records.specs.Record.{state_in}
+use Rattle.records.specs.Rules.{enters_of}
 use Rattle.records.specs.Held.{counts_in, tasks_in}
 use Rattle.records.specs.declared.Dispatcher.{Dispatcher}
 use Rattle.records.proofs.laws.Fields.{Fields, Long}
@@ -24,7 +24,7 @@ abbrev pub admitted_state : Dispatcher → ℕ → State
 admitted_state d asked = admit (tasks_in d) (bit asked) (state_in d)
 
 -- whom the scan over the arrays lets in is whom the rules let in
-pub scan_is : (d : Dispatcher) (asked m : ℕ) → m ≡ mask_of 32 (array.enters_of d.tasks d.spacing d.since d.unfinished asked) → m ≡ mask_of 32 (lets_in (tasks_in d) (state_in d) (bit asked))
+pub scan_is : (d : Dispatcher) (asked m : ℕ) → m ≡ mask_of 32 (enters_of d asked) → m ≡ mask_of 32 (lets_in (tasks_in d) (state_in d) (bit asked))
 unfolding lets_in
 scan_is d asked m e = e
 

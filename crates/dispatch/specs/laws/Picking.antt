@@ -4,7 +4,6 @@ use Rattle.std.specs.Prelude.{◌≡◌, refl, true, false, cond, ◌&&◌, ◌|
 use Rattle.std.proofs.Common.{sym, ap, ap₂, ◌∙◌, subst, arith}
 use Rattle.std.proofs.Math.Decide.{ℕ_discrete}
 use Rattle.std.proofs.Math.Dec.{eqb-suc-zero}
-use Rattle.arrays.specs.Rules.{goes_before, urgent_of}
 use Rattle.model.specs.Phase.{Choice}
 use Rattle.model.specs.Tasks.{Tasks}
 use Rattle.promise.specs.Rules.{State, ahead, best, pick, pick_at, start, stated}
@@ -12,11 +11,12 @@ use Rattle.promise.proofs.laws.Remaining.{At}
 use Rattle.promise.proofs.laws.Urgent.{Best, best_is}
 use Rattle.records.specs.Ranges.{in_range}
 use Rattle.records.specs.Record.{state_in}
+use Rattle.records.specs.Rules.{goes_before, ticks_of, urgent_of}
 use Rattle.records.specs.Held.{counts_in, tasks_in}
 use Rattle.records.specs.declared.Dispatcher.{Dispatcher}
 use Rattle.records.proofs.laws.Fields.{Fields, Long}
 use Rattle.records.proofs.laws.InRange.{range_fields}
-use Rattle.records.proofs.laws.Views.{due_of_views, due_ticks}
+use Rattle.records.proofs.laws.Views.{due_of_views}
 use Rattle.dispatch.specs.Steps.{Picks, in_state}
 use Rattle.dispatch.specs.laws.Keeps.{pick_keeps}
 use Rattle.dispatch.specs.laws.Reads.{few, few_phases, own_keeps, ranged, still_in_range}
@@ -24,17 +24,17 @@ use Rattle.dispatch.specs.laws.Updates.{as_it_is, in_state_lem, own_state, with_
 
 -- ---- the scan
 
-before_is : (d : Dispatcher) (i b : ℕ) → goes_before d.unfinished d.left i b (get_or d.left (b - 1) 0) ≡ ((state_in d).busy i && ahead (state_in d) i b)
+before_is : (d : Dispatcher) (i b : ℕ) → goes_before d i b (get_or d.left (b - 1) 0) ≡ ((state_in d).busy i && ahead (state_in d) i b)
 before_is d i zero = refl
 before_is d i (suc j) =
     let e : suc j - 1 ≡ j = omega arith in
     ap₂ (λ z k. (state_in d).busy i && (z || ltb (get_or d.left i 0) (get_or d.left k 0))) (eqb-suc-zero j) e
 
-urgent_is : (d : Dispatcher) (n : ℕ) → urgent_of d.unfinished d.left n ≡ best (state_in d) n
+urgent_is : (d : Dispatcher) (n : ℕ) → urgent_of d n ≡ best (state_in d) n
 unfolding urgent_of best
 urgent_is d zero = refl
 urgent_is d (suc i) =
-    ap (λ b. cond (goes_before d.unfinished d.left i b (get_or d.left (b - 1) 0)) (suc i) b) (urgent_is d i) ∙
+    ap (λ b. cond (goes_before d i b (get_or d.left (b - 1) 0)) (suc i) b) (urgent_is d i) ∙
     ap (λ c. cond c (suc i) (best (state_in d) i)) (before_is d i (best (state_in d) i))
 
 -- tasks that do not exist have no jobs, so a scan over them changes nothing
@@ -78,7 +78,7 @@ module _ (d : Dispatcher) (long : Long d) (range : in_range d ≡ true) where
       go zero n = absurd (n refl)
       go (suc j) n = refl
 
-  urgent : (t : ℕ) → t ≡ urgent_of d.unfinished d.left 32 → t ≡ best s S.n
+  urgent : (t : ℕ) → t ≡ urgent_of d 32 → t ≡ best s S.n
   urgent t e = e ∙ urgent_is d 32 ∙ best_more s S.n 32 f.state.none (few d f)
 
   -- none runs: the best starts
@@ -86,22 +86,22 @@ module _ (d : Dispatcher) (long : Long d) (range : in_range d ≡ true) where
   starts t r e = ap (start S x s) e ∙ ap (pick_at S x s) (sym r)
 
   -- there is none
-  pub picks_none : d.running ≡ 0 → 0 ≡ urgent_of d.unfinished d.left 32 → Picks d d
+  pub picks_none : d.running ≡ 0 → 0 ≡ urgent_of d 32 → Picks d d
   picks_none r e = picks_as d (as_it_is d long f ∙ ap (in_state d) (starts 0 r (urgent 0 e)))
 
   -- its next piece starts
-  pub picks_next : (t n : ℕ) → d.running ≡ 0 → t ≡ urgent_of d.unfinished d.left 32 → (t ≡ 0 → ⊥) → n ≡ due_ticks d t → Picks d (with_run d t n)
+  pub picks_next : (t n : ℕ) → d.running ≡ 0 → t ≡ urgent_of d 32 → (t ≡ 0 → ⊥) → n ≡ ticks_of d t → Picks d (with_run d t n)
   picks_next t n r e z h = picks_as (with_run d t n) (go t z (urgent t e) h ∙ ap (in_state d) (starts t r (urgent t e)))
     where
-      ticks : (j : ℕ) → j < S.n → s.busy j ≡ true → due_ticks d (suc j) ≡ stated S x j (s.phase j) (s.piece j)
+      ticks : (j : ℕ) → j < S.n → s.busy j ≡ true → ticks_of d (suc j) ≡ stated S x j (s.phase j) (s.piece j)
       ticks j l b =
           let at : At S x j (s.phase j) (s.piece j) = f.jobs.job j l b in
           due_of_views d j (omega (arith, at.phase_least, at.phase_at_most, few_phases d f j l))
 
-      due : (j : ℕ) → suc j ≡ best s S.n → due_ticks d (suc j) ≡ stated S x j (s.phase j) (s.piece j)
+      due : (j : ℕ) → suc j ≡ best s S.n → ticks_of d (suc j) ≡ stated S x j (s.phase j) (s.piece j)
       due j e = let b : Best s S.n (suc j) = subst (Best s S.n) (sym e) (best_is s S.n) in ticks j b.task b.unfinished
 
-      go : (t : ℕ) → (t ≡ 0 → ⊥) → t ≡ best s S.n → n ≡ due_ticks d t → with_run d t n ≡ in_state d (start S x s t)
+      go : (t : ℕ) → (t ≡ 0 → ⊥) → t ≡ best s S.n → n ≡ ticks_of d t → with_run d t n ≡ in_state d (start S x s t)
       go zero z e h = absurd (z refl)
       go (suc j) z e h =
           ap (with_run d (suc j)) (h ∙ due j e) ∙ ap (λ (r : Dispatcher). with_run r (suc j) (stated S x j (s.phase j) (s.piece j))) (own_state d long f) ∙

@@ -9,8 +9,6 @@ use Prim.Native.Nat.{ℕ, zero, suc, ◌+◌, ◌-◌, ◌*◌, ◌≤◌, ◌<�
 use Rattle.std.proofs.Math.Decide.{ℕ_discrete}
 use Rattle.std.proofs.Math.Dec.{eqb, ltb, eqb-suc-zero}
 use Rattle.finite.specs.Masks.{digit}
-use Rattle.arrays.specs.Rules.{due_of}
-use Rattle.arrays.specs.declared.rules.Due.{Due}
 use Rattle.finite.specs.Finite.{list_to}
 use Rattle.finite.proofs.laws.Lists.{get_or_list, length_list}
 use Rattle.finite.proofs.laws.Tests.{and_both, cond_false, cond_true}
@@ -22,7 +20,9 @@ use Rattle.promise.proofs.laws.Remaining.{At, RunsAt, put_other, put_same}
 use Rattle.records.specs.Ranges.{in_range}
 use Rattle.records.specs.Record.{state_in}
 use Rattle.records.specs.Held.{counts_in, tasks_in}
+use Rattle.records.specs.Rules.{due_of}
 use Rattle.records.specs.declared.Dispatcher.{Dispatcher}
+use Rattle.records.specs.declared.rules.Due.{Due}
 use Rattle.records.proofs.laws.Fields.{Fields, Long}
 use Rattle.records.proofs.laws.InRange.{range_fields}
 use Rattle.dispatch.specs.Steps.{WorksOn, in_state, ran_of}
@@ -75,7 +75,7 @@ set_false f j l =
 
 -- what is due of the running task
 abbrev due_in : Dispatcher → Due
-due_in d = due_of d.phases d.counts d.phase d.piece d.running
+due_in d = due_of d d.running
 
 -- the ticks of the running piece are used, or the flag is set; a piece runs, and ends
 abbrev used_up : Dispatcher → Bool → Bool
@@ -148,8 +148,8 @@ module _ {d : Dispatcher} {flag : Bool} {due : Due} {ran : Ran} {i : ℕ} (found
       go zero e =
           λ k. record {
             task = e k;
-            phase = cond (eqb (e k) 0) 0 (due_of d.phases d.counts d.phase d.piece d.running).phase;
-            piece = cond (eqb (e k) 0) 0 (due_of d.phases d.counts d.phase d.piece d.running).piece;
+            phase = cond (eqb (e k) 0) 0 (due_of d d.running).phase;
+            piece = cond (eqb (e k) 0) 0 (due_of d d.running).piece;
             ended = not (eqb (e k) 0) && used_up d flag;
             finished = not (eqb (e k) 0) && used_up d flag && not (more_pieces (due_in d) || more_phases (due_in d));
           }

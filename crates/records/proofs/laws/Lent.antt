@@ -1,32 +1,18 @@
 -- What the loop over the places of the phases tests, place by place, is the test of every phase, number by number.
 -- Assumes nothing.
-use Rattle.std.specs.Prelude.{◌≡◌, refl, Bool, true, false, cond, ◌&&◌, List, ℕ, ◌+◌, ◌/◌, ◌%◌, ◌<◌, leb, ltb, eqb, get_or}
-use Rattle.std.proofs.Common.{sym, ap, ap₂, ◌∙◌, add-one, arith}
+use Rattle.std.specs.Prelude.{◌≡◌, refl, Bool, true, false, ◌&&◌, List, ℕ, ◌/◌, ◌%◌, ◌<◌, leb, get_or}
+use Rattle.std.proofs.Common.{sym, ap, ap₂, ◌∙◌, arith}
 use Rattle.finite.specs.Finite.{Below, all_to}
 use Rattle.finite.proofs.laws.Decided.{alike, both, every, restated, within_decides}
-use Rattle.finite.proofs.laws.Tests.{Decides, eqb_decides, leb_decides}
+use Rattle.finite.proofs.laws.Tests.{Decides, leb_decides}
 use Rattle.model.specs.Arrays.{phase_at}
-use Rattle.model.specs.Ranges.{all_phases, number_test}
+use Rattle.model.specs.Ranges.{all_phases, cost_most, number_test, table_test, task_test, tasks_most, work_most}
 use Rattle.model.proofs.laws.Arrays.{phase_place}
-use Rattle.records.specs.Lent.{in_place, in_place_at}
+use Rattle.records.specs.Held.{held_in, held_test, tasks_in}
+use Rattle.records.specs.Lent.{cost_at, count_at, in_place, in_place_at, numbers_at, used_at, work_at}
+use Rattle.records.specs.declared.Dispatcher.{Dispatcher}
 
 -- ---- one place
-
--- two tests make a number's range
-pub in_place_by : (used : Bool) (least most number : ℕ) → (leb (cond used least 0) number && leb number (cond used most 0)) ≡ in_place used least most number
-in_place_by true least most number = refl
-in_place_by false least most number =
-    alike _ _
-    (both (leb_decides 0 number) (leb_decides number 0))
-    (restated (λ e. (omega arith, omega arith)) (λ h. omega (arith, h.1)) (eqb_decides number 0))
-
--- and two a count's, whatever the work at a place that is not used
-pub count_by : (used : Bool) (work count : ℕ) → (cond used (leb 1 count) (eqb count 0) && leb count work) ≡ in_place used 1 work count
-count_by true work count = refl
-count_by false work count =
-    alike _ _
-    (both (eqb_decides count 0) (leb_decides count work))
-    (restated (λ e. (e, omega (arith, e))) (λ h. h.0) (eqb_decides count 0))
 
 -- where a count is in its range, the work is at least 1
 work_some : (used : Bool) (most work count : ℕ) → in_place used 1 work count ≡ true → in_place used 0 most work ≡ in_place used 1 most work
@@ -57,55 +43,46 @@ all_alike n p q e =
     (every n p (λ i. p i ≡ true) (λ i. itself (p i)))
     (restated (λ t i l. e i l ∙ t i l) (λ t i l. sym (e i l) ∙ t i l) (every n q (λ i. q i ≡ true) (λ i. itself (q i))))
 
--- one number of every phase, with a most of its own at each
-pub all_in_place : (phases : List ℕ) (least : ℕ) (most : ℕ → ℕ) (each : ℕ → ℕ → ℕ) (numbers : List ℕ) → ((p : ℕ) → most p ≡ each (p / 8) (p % 8))
-    → all_to 256 (in_place_at phases least most numbers) ≡ all_phases (λ i j. number_test (λ i. get_or phases i 0) least (each i j) (phase_at numbers) i j)
-all_in_place phases least most each numbers e =
-    all_alike 256 (in_place_at phases least most numbers) (λ p. number_test (λ i. get_or phases i 0) least (each (p / 8) (p % 8)) (phase_at numbers) (p / 8) (p % 8))
-    (λ p l. ap₂ (λ z v. in_place (ltb (p % 8) (get_or phases (p / 8) 0)) least z v) (e p) (sym (phase_place numbers p)))
-
--- where all counts are, all works are
-pub works_some : (phases : List ℕ) (most : ℕ) (work counts : List ℕ) → all_to 256 (in_place_at phases 1 (λ p. get_or work p 0) counts) ≡ true
-    → all_to 256 (in_place_at phases 0 (λ p. most) work) ≡ all_to 256 (in_place_at phases 1 (λ p. most) work)
-works_some phases most work counts h =
-    all_alike 256 (in_place_at phases 0 (λ p. most) work) (in_place_at phases 1 (λ p. most) work)
-    (λ p l. work_some (ltb (p % 8) (get_or phases (p / 8) 0)) most (get_or work p 0) (get_or counts p 0) (each p l))
-  where
-    each : Below 256 (λ p. in_place_at phases 1 (λ p. get_or work p 0) counts p ≡ true)
-    each =
-        (every 256 (in_place_at phases 1 (λ p. get_or work p 0) counts) (λ p. in_place_at phases 1 (λ p. get_or work p 0) counts p ≡ true)
-        (λ p. itself (in_place_at phases 1 (λ p. get_or work p 0) counts p))).0 h
-
--- ---- a loop that tests every place after a first test
-
-unfoldable pub all_after : Bool → ℕ → (ℕ → Bool) → Bool
-all_after a n p = a && all_to n p
-
-pub after_none : (a : Bool) (p : ℕ → Bool) → a ≡ all_after a 0 p
-unfolding all_after all_to
-after_none true p = refl
-after_none false p = refl
-
-pub after_more : (a : Bool) (i : ℕ) (p : ℕ → Bool) (b v : Bool) → b ≡ all_after a i p → v ≡ (b && p i) → v ≡ all_after a (i + 1) p
-unfolding all_after all_to
-after_more true i p b v e f = f ∙ rw (add-one, e)
-after_more false i p b v e f = f ∙ rw e
-
--- one test at every place, and one more
-pub after_one : (n : ℕ) (a : Bool) (p : ℕ → Bool) → all_after a n p ≡ (a && all_to n p)
-unfolding all_after
-after_one n a p = refl
-
-pub after_all : (n : ℕ) (a : Bool) (p q : ℕ → Bool) {x : Bool} → all_after a n p ≡ x → all_after a n (λ i. p i && q i) ≡ (x && all_to n q)
-unfolding all_after
-after_all n true p q e = all_both n p q ∙ ap (λ b. b && all_to n q) e
-after_all n false p q e = ap (λ b. b && all_to n q) e
-
 -- what matters only where the last test passes
-pub under_last : (b : Bool) {x y : Bool} → (b ≡ true → x ≡ y) → (x && b) ≡ (y && b)
+under_last : (b : Bool) {x y : Bool} → (b ≡ true → x ≡ y) → (x && b) ≡ (y && b)
 under_last true e = ap (λ z. z && true) (e refl)
 under_last false {x} {y} e = none x ∙ sym (none y)
   where
     none : (z : Bool) → (z && false) ≡ false
     none true = refl
     none false = refl
+
+-- a first test and three more, grouped in two ways
+grouped : (a w q c : Bool) → (a && (w && q && c)) ≡ (a && w && q && c)
+grouped true w q c = refl
+grouped false w q c = refl
+
+module _ (d : Dispatcher) where
+  -- one number of every phase, with a most of its own at each
+  all_in_place : (least : ℕ) (most : ℕ → ℕ) (each : ℕ → ℕ → ℕ) (numbers : List ℕ) → ((p : ℕ) → most p ≡ each (p / 8) (p % 8))
+      → all_to 256 (in_place_at d least most numbers) ≡ all_phases (λ i j. number_test (λ i. get_or d.phases i 0) least (each i j) (phase_at numbers) i j)
+  all_in_place least most each numbers e =
+      all_alike 256 (in_place_at d least most numbers) (λ p. number_test (λ i. get_or d.phases i 0) least (each (p / 8) (p % 8)) (phase_at numbers) (p / 8) (p % 8))
+      (λ p l. ap₂ (λ z v. in_place (used_at d p) least z v) (e p) (sym (phase_place numbers p)))
+
+  -- where all counts are, all works are at least 1
+  works_some : all_to 256 (count_at d) ≡ true → all_to 256 (work_at d) ≡ all_to 256 (in_place_at d 1 (λ p. work_most) d.work)
+  works_some h =
+      all_alike 256 (work_at d) (in_place_at d 1 (λ p. work_most) d.work)
+      (λ p l. work_some (used_at d p) work_most (get_or d.work p 0) (get_or d.counts p 0) (each p l))
+    where
+      each : Below 256 (λ p. count_at d p ≡ true)
+      each = (every 256 (count_at d) (λ p. count_at d p ≡ true) (λ p. itself (count_at d p))).0 h
+
+  -- the number of tasks, the tests of every task and those of every place are the test of what the record holds
+  pub held_by : (leb d.tasks tasks_most && all_to 32 (task_test (tasks_in d)) && all_to 256 (numbers_at d)) ≡ held_test (held_in d)
+  unfolding held_test table_test
+  held_by =
+      let A : Bool = leb d.tasks tasks_most && all_to 32 (task_test (tasks_in d)) in
+      let W = all_in_place 1 (λ p. work_most) (λ i j. work_most) d.work (λ p. refl) in
+      let Q = all_in_place 0 (λ p. cost_most) (λ i j. cost_most) d.cost (λ p. refl) in
+      let C = all_in_place 1 (λ p. get_or d.work p 0) (phase_at d.work) d.counts (λ p. sym (phase_place d.work p)) in
+      ap (λ b. A && b) (all_both 256 (λ p. work_at d p && cost_at d p) (count_at d) ∙ ap (λ b. b && all_to 256 (count_at d)) (all_both 256 (work_at d) (cost_at d))) ∙
+      grouped A (all_to 256 (work_at d)) (all_to 256 (cost_at d)) (all_to 256 (count_at d)) ∙
+      under_last (all_to 256 (count_at d)) (λ h. ap (λ w. (A && w) && all_to 256 (cost_at d)) (works_some h)) ∙
+      (λ k. ((A && W k) && Q k) && C k)

@@ -5,7 +5,7 @@ use Rattle.std.proofs.Common.{sym, ◌∙◌, true≢false, arith}
 use Rattle.std.proofs.Math.Path.{ap}
 use Rattle.std.proofs.Math.Bool.{Bool, true}
 use Rattle.std.proofs.Math.Decide.{dec_lt}
-use Rattle.arrays.specs.Rules.{ticks_of}
+use Rattle.records.specs.Rules.{ticks_of}
 use Rattle.finite.specs.Finite.{Below, all_to}
 use Rattle.finite.proofs.laws.Decided.{alike, both, by_test, every, restated, three, within_decides}
 use Rattle.finite.proofs.laws.Tests.{Decides, and_both, by_cases, eqb_decides, failed, leb_decides}
@@ -14,7 +14,7 @@ use Rattle.model.specs.Ranges.{InTable}
 use Rattle.model.specs.Tasks.{Tasks}
 use Rattle.model.proofs.laws.Ranges.{few_of}
 use Rattle.promise.specs.Rules.{State, stated}
-use Rattle.records.specs.Lent.{changing_all, job_at, piece_at, run_in, since_at}
+use Rattle.records.specs.Lent.{changing_all, job_at, piece_at, run_in, running_all, since_at}
 use Rattle.records.specs.Ranges.{changing_test, in_range, run_test}
 use Rattle.records.specs.Record.{state_in}
 use Rattle.records.specs.Held.{counts_in, held_in, held_test, tasks_in}
@@ -23,7 +23,7 @@ use Rattle.records.proofs.laws.Fields.{Long}
 use Rattle.records.proofs.laws.Held.{held_decides}
 use Rattle.records.proofs.laws.Lent.{all_alike, all_both, itself}
 use Rattle.records.proofs.laws.InRange.{ChangingP, NowP, RunP, Within, changing_decides, run_decides}
-use Rattle.records.proofs.laws.Views.{due_of_views, due_ticks}
+use Rattle.records.proofs.laws.Views.{due_of_views}
 
 -- a second test matters only where the first passes
 and_where : (a : Bool) {b c : Bool} → (a ≡ true → b ≡ c) → (a && b) ≡ (a && c)
@@ -40,13 +40,6 @@ run_alike run n u ticks m m' e =
     go : (a b : ℕ) → (¬ (run ≡ 0) → run ≤ n → u ≡ true → a ≡ b) → RunP run n u ticks a → RunP run n u ticks b
     go a b f r = (r.0, λ h. let t = r.1 h in (t.0, t.1, (t.2.0, omega (arith, t.2.1, f h t.0 t.1))))
 
--- the code's test of what a tick changes, and of the running piece
-abbrev pub changing_ok : Dispatcher → Bool
-changing_ok d = changing_all d.spacing d.deadline d.phases d.counts d.since d.unfinished d.left d.phase d.piece
-
-abbrev pub run_ok : Dispatcher → Bool
-run_ok d = run_in d.running d.tasks (eqb (get_or d.unfinished (d.running - 1) 0) 1) d.ticks (ticks_of d.phase d.piece d.work d.cost d.counts d.running)
-
 module _ (d : Dispatcher) (long : Long d) where
   abbrev S : Tasks
   S = tasks_in d
@@ -59,15 +52,6 @@ module _ (d : Dispatcher) (long : Long d) where
 
   -- ---- what a tick changes
 
-  abbrev since_ok : ℕ → Bool
-  since_ok = since_at d.spacing d.since
-
-  abbrev job_ok : ℕ → Bool
-  job_ok = job_at d.deadline d.phases d.unfinished d.left d.phase d.piece
-
-  abbrev piece_ok : ℕ → Bool
-  piece_ok = piece_at d.counts d.phase d.piece
-
   -- a job, but for the most of its piece
   abbrev NearP : ℕ → Type 0
   NearP i =
@@ -77,7 +61,7 @@ module _ (d : Dispatcher) (long : Long d) where
   abbrev LentP : ℕ → Type 0
   LentP i = ((s.since i ≤ S.T i) × ((get_or d.unfinished i 0 ≤ 1) × NearP i)) × (s.piece i ≤ x i (s.phase i - 1))
 
-  lent_decides : (i : ℕ) → Decides ((since_ok i && job_ok i) && piece_ok i) (LentP i)
+  lent_decides : (i : ℕ) → Decides ((since_at d i && job_at d i) && piece_at d i) (LentP i)
   lent_decides i =
       both (both (leb_decides (s.since i) (S.T i))
       (both (leb_decides (get_or d.unfinished i 0) 1)
@@ -128,44 +112,39 @@ module _ (d : Dispatcher) (long : Long d) where
               (λ b. absurd (failed (itself (s.busy i)) (ap (λ v. eqb v 1) z.0.0.0.1) b), λ b. (z.0.0.1, z.0.1, z.1)),
             )
 
-    changing_are : ((all_to 32 since_ok && all_to 32 job_ok) && all_to 32 piece_ok) ≡ all_to 32 (changing_test d)
+    changing_are : ((all_to 32 (since_at d) && all_to 32 (job_at d)) && all_to 32 (piece_at d)) ≡ all_to 32 (changing_test d)
     changing_are =
-        ap (λ b. b && all_to 32 piece_ok) (sym (all_both 32 since_ok job_ok)) ∙
-        sym (all_both 32 (λ i. since_ok i && job_ok i) piece_ok) ∙
-        all_alike 32 (λ i. (since_ok i && job_ok i) && piece_ok i) (changing_test d)
+        ap (λ b. b && all_to 32 (piece_at d)) (sym (all_both 32 (since_at d) (job_at d))) ∙
+        sym (all_both 32 (λ i. since_at d i && job_at d i) (piece_at d)) ∙
+        all_alike 32 (λ i. (since_at d i && job_at d i) && piece_at d i) (changing_test d)
         (λ i l. alike _ _ (lent_decides i) (restated (to i) (from i) (changing_decides d i)))
 
     -- ---- the running piece
 
     -- its ticks, in the view and straight from the arrays
     due_alike : Below 32 (ChangingP d) → ¬ (s.run ≡ 0) → s.run ≤ S.n → s.busy (s.run - 1) ≡ true →
-        due_ticks d s.run ≡ stated S x (s.run - 1) (s.phase (s.run - 1)) (s.piece (s.run - 1))
+        ticks_of d s.run ≡ stated S x (s.run - 1) (s.phase (s.run - 1)) (s.piece (s.run - 1))
     due_alike now h l b =
         let e : s.run ≡ suc (s.run - 1) = go s.run h in
         let j = ((now (s.run - 1) (omega (arith, t.tasks))).0 (omega arith)).2.0 b in
-        ap (due_ticks d) e ∙ due_of_views d (s.run - 1) (omega (arith, j.1.0, j.1.1, (few_of S t).phases (s.run - 1)))
+        ap (ticks_of d) e ∙ due_of_views d (s.run - 1) (omega (arith, j.1.0, j.1.1, (few_of S t).phases (s.run - 1)))
       where
         go : (r : ℕ) → ¬ (r ≡ 0) → r ≡ suc (r - 1)
         go zero n = absurd (n refl)
         go (suc r) n = omega arith
 
-    run_is : Below 32 (ChangingP d) → run_in s.run S.n (s.busy (s.run - 1)) s.ticks (due_ticks d s.run) ≡ run_test S x s
-    run_is now = run_alike s.run S.n (s.busy (s.run - 1)) s.ticks (due_ticks d s.run) _ (due_alike now)
+    run_is : Below 32 (ChangingP d) → run_in s.run S.n (s.busy (s.run - 1)) s.ticks (ticks_of d s.run) ≡ run_test S x s
+    run_is now = run_alike s.run S.n (s.busy (s.run - 1)) s.ticks (ticks_of d s.run) _ (due_alike now)
 
   -- ---- all of them
 
-  together : ((held_test (held_in d) && changing_ok d) && run_ok d) ≡ in_range d
+  pub together : ((held_test (held_in d) && changing_all d) && running_all d) ≡ in_range d
   unfolding in_range
   together =
       let W : Bool = held_test (held_in d) in
       let in_table : W ≡ true → InTable S = λ e. ((held_decides d long).0 e).table in
-      ap (λ b. b && run_ok d) (and_where W (λ e. changing_are (in_table e))) ∙
+      ap (λ b. b && running_all d) (and_where W (λ e. changing_are (in_table e))) ∙
       and_where (W && all_to 32 (changing_test d))
       (λ e.
       let t = and_both W (all_to 32 (changing_test d)) e in
       run_is (in_table t.0) ((every 32 (changing_test d) (ChangingP d) (changing_decides d)).0 t.1))
-
--- from what it computes one by one
-pub tested_by : (d : Dispatcher) (long : Long d) (held changing runs : Bool)
-    → held ≡ held_test (held_in d) → changing ≡ changing_ok d → runs ≡ run_ok d → ((held && changing) && runs) ≡ in_range d
-tested_by d long held changing runs a b c = rw (a, b, c) (together d long)

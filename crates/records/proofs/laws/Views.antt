@@ -5,7 +5,6 @@ use Rattle.std.proofs.Common.{sym, ap, ◌∙◌, arith}
 use Rattle.std.proofs.Math.Decide.{dec_lt}
 use Rattle.std.proofs.Math.ListN.{get_or-eq_default}
 use Rattle.finite.specs.Masks.{digit}
-use Rattle.arrays.specs.Rules.{ticks_of}
 use Rattle.finite.specs.Finite.{list_to}
 use Rattle.finite.proofs.laws.Lists.{get_or_list, length_list, list_alike, list_of}
 use Rattle.model.specs.Phase.{piece_length}
@@ -16,6 +15,7 @@ use Rattle.model.proofs.laws.Ranges.{few_of}
 use Rattle.promise.specs.Rules.{State, stated}
 use Rattle.promise.proofs.laws.Range.{Range}
 use Rattle.records.specs.Record.{record_of, state_in}
+use Rattle.records.specs.Rules.{ticks_of}
 use Rattle.records.specs.Held.{Held, HeldInRange, counts_in, held_in, record_with, tasks_in}
 use Rattle.records.specs.declared.Dispatcher.{Dispatcher}
 use Rattle.records.proofs.laws.Fields.{Long}
@@ -85,13 +85,9 @@ module _ (h : Held) (range : HeldInRange h) where
 
 -- ---- the ticks of a piece
 
--- the ticks of the running or next due piece of task t (from 1), straight from the arrays
-abbrev pub due_ticks : Dispatcher → ℕ → ℕ
-due_ticks d t = ticks_of d.phase d.piece d.work d.cost d.counts t
-
--- they are what the rules state, where the phase is one of the eight
+-- straight from the arrays they are what the rules state, where the phase is one of the eight
 pub due_of_views : (d : Dispatcher) (j : ℕ) → get_or d.phase j 0 - 1 < 8
-    → due_ticks d (suc j) ≡ stated (tasks_in d) (counts_in d) j (get_or d.phase j 0) (get_or d.piece j 0)
+    → ticks_of d (suc j) ≡ stated (tasks_in d) (counts_in d) j (get_or d.phase j 0) (get_or d.piece j 0)
 unfolding stated
 due_of_views d j l =
     let e : suc j - 1 ≡ j = omega arith in

@@ -2,4 +2,4 @@
 use Rattle.dispatch.proofs.steps.told.Goals as goal
 
 pub returns : goal.returns
-returns c = rw (c.either.ensures, c.either-2.ensures)
+returns c = rw (c.choose.ensures, c.choose-2.ensures)

@@ -1,3 +1,0 @@
--- The definitions of this crate, and the laws beside them.
-pub mod Rules
-pub mod laws

@@ -1,2 +1,0 @@
--- What is proved of the definitions beside this folder.
-pub mod Rules
