@@ -1,9 +1,7 @@
 -- `groups::put` meets its contract. The invariant: to write the whole number into the buffer as it came is to write what is left of it, in
 -- at most `more` bytes before the last, into the buffer as it is. Assumes nothing.
-use Prim.Native.Nat.{ℕ, suc, ◌+◌, ◌^◌, ◌<◌}
-use mathlib.Core.Path.{◌≡◌}
-use lib.ListN.{length}
-use lib.Seq.{sets}
+use Rattle.std.proofs.Common.{ℕ, suc, ◌+◌, ◌^◌, ◌<◌, ◌≡◌, length}
+use Rattle.std.proofs.lemmas.List.Edits.{sets}
 use Rattle.groups.specs.Encode.{encode_in, encode}
 use Rattle.groups.proofs.put.Given as goal
 
@@ -12,7 +10,6 @@ invariant-loop-rest l = (more : ℕ)
     × (sets l.initial.out l.at (encode l.value) ≡ sets l.out l.p (encode_in more l.rest))
     × (l.at + length (encode l.value) ≡ l.p + length (encode_in more l.rest))
     × (l.rest < 128 ^ suc more)
-    × (length l.out ≡ length l.initial.out)
 
 abbrev pub decreases-loop-rest : goal.decreases-loop-rest
 decreases-loop-rest l = l.rest

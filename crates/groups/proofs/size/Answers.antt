@@ -1,9 +1,6 @@
-use native.Mathlib.Omega.{arith}
+use Rattle.std.proofs.Common.{arith}
 use Rattle.groups.proofs.Writing.{counted_more, counted_last, counted_full}
 use Rattle.groups.proofs.size.Goals as goal
-
-pub loop-n-init : goal.loop-n-init
-loop-n-init c = omega arith
 
 pub returns-then-rest-lt128 : goal.returns-then-rest-lt128
 returns-then-rest-lt128 c = let l = c.loop-n in omega (arith, l.invariant, counted_last l.n l.rest c.if-rest-lt128.true)
