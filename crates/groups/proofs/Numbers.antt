@@ -1,35 +1,20 @@
 -- The bytes of numbers one behind the other: how many they are. Assumes nothing.
 use Prim.Native.Nat.{ℕ, zero, suc, ◌+◌, ◌*◌, ◌/◌, ◌%◌, ◌≤◌, ◌<◌}
-use mathlib.Core.Path.{◌≡◌, refl, ap, sym, ◌∙◌}
+use mathlib.Core.Path.{◌≡◌}
 use mathlib.Core.Bool.{Bool, true, false}
-use mathlib.Core.List.{List, [], ◌∷◌, ◌++◌, append_assoc, append-nil}
+use mathlib.Core.List.{List, [], ◌∷◌}
 use native.Mathlib.Omega.{arith}
 use lib.Dec.{ltb}
 use lib.ListN.{length, length-append}
 use Rattle.finite.specs.Finite.{join_to}
 use Rattle.std.specs.Prelude.{if◌then◌else◌}
 use Rattle.groups.specs.Encode.{encode, encode_in, encode_all}
-
-pub encode_all_append : (ms ns : List ℕ) → encode_all (ms ++ ns) ≡ encode_all ms ++ encode_all ns
-unfolding encode_all
-encode_all_append [] ns = refl
-encode_all_append (m ∷ ms) ns = ap (λ (l : List ℕ). encode m ++ l) (encode_all_append ms ns) ∙ sym (append_assoc (encode m) (encode_all ms) (encode_all ns))
-
-pub encode_all_one : (n : ℕ) → encode_all (n ∷ []) ≡ encode n
-unfolding encode_all
-encode_all_one n = append-nil (encode n)
-
-pub none : length (encode_all []) ≡ 0
-unfolding encode_all
-none = refl
+use Rattle.groups.specs.SinkLaws.{none, append}
 
 -- a number in front
 pub cons : (n : ℕ) (ns : List ℕ) → length (encode_all (n ∷ ns)) ≡ length (encode n) + length (encode_all ns)
 unfolding encode_all
 cons n ns = length-append (encode n) (encode_all ns)
-
-pub append : (ms ns : List ℕ) → length (encode_all (ms ++ ns)) ≡ length (encode_all ms) + length (encode_all ns)
-append ms ns = rw encode_all_append (length-append (encode_all ms) (encode_all ns))
 
 -- joined numbers, where each part has at most b bytes
 pub join_short : (b n : ℕ) (f : ℕ → List ℕ) → ((k : ℕ) → k < n → length (encode_all (f k)) ≤ b) → length (encode_all (join_to n f)) ≤ b * n

@@ -1,23 +1,24 @@
 -- The three answers of writing a table, and that the contract allows one outcome only.
 use Prim.Native.Nat.{ℕ, ◌+◌, ◌*◌, ◌≤◌, ◌<◌}
 use mathlib.Core.Path.{◌≡◌, refl, ap, sym, ◌∙◌}
-use mathlib.Core.List.{List, ◌++◌}
+use mathlib.Core.List.{List}
 use mathlib.Core.Logic.{◌⊎◌, inl, inr}
 use mathlib.Core.Bool.{Bool, true, false, ◌||◌, true≢false}
 use native.Mathlib.Omega.{arith}
 use borrow.Author.Tests.{lt-ltb, le-ltb, ltb-false}
+use Rattle.std.specs.Prelude.{Result, Ok, Err}
 use lib.Dec.{ltb}
-use lib.ListN.{length, get_or, drop}
+use lib.ListN.{length, get_or}
 use Rattle.model.specs.Ranges.{phases_most, tasks_most}
 use Rattle.finite.specs.Finite.{any_to}
 use Rattle.finite.proofs.laws.Tests.{failed, le_or_lt, ltb_decides}
 use Rattle.finite.proofs.laws.Searches.{any_decides}
-use Rattle.groups.specs.Pass.{RoomFor, Passed}
+use Rattle.groups.specs.Sinks.{Counts, Countable, RoomFor, Fills}
 use Rattle.groups.proofs.Numbers.{eight_each, join_count}
 use Rattle.groups.proofs.Passes.{in_front_lem}
 use Rattle.table.specs.declared.Table.{Table}
-use Rattle.writer.specs.declared.TableWritten.{TableWritten}
-use Rattle.writer.specs.declared.TableWritten.TheVariants.{Wrote, NoRoom, OutOfRange}
+use Rattle.writer.specs.declared.TableError.{TableError}
+use Rattle.writer.specs.declared.TableError.TheVariants.{NoRoom}
 use Rattle.writer.specs.Written.{phase_items, task_items, table_items, table_bytes, overfull, Writes}
 
 -- the test of the phases, for a table
@@ -69,43 +70,31 @@ task_few t i h =
     omega arith
 
 module _ (t : Table) (e : overfull t ≡ false) where
-  pub can_be_measured : {out : List ℕ} → RoomFor false out 0 (table_items t)
+  pub can_be_measured : Countable 0 (table_items t)
   can_be_measured = record {
     most =
         let h = in_arrays t e in
         omega (arith, h.tasks_at_most, eight_each (table_items t), join_count 19 t.tasks (task_items t) (λ i l. task_few t i (h.phases_at_most i l)));
   }
 
-  module _ {before between : List ℕ} {n : ℕ} (v : Passed false before between 0 n (table_items t)) where
-    pub measured_fits : n ≤ length between → RoomFor true between 0 (table_items t)
-    measured_fits h = record { most = omega (arith, v.next_is) }
+  module _ {before : List ℕ} {n : ℕ} (v : Counts 0 n (table_items t)) where
+    pub measured_fits : n ≤ length before → RoomFor before 0 (table_items t)
+    measured_fits h = record { most = omega (arith, v.after_is) }
 
-    pub no_room : length between < n → Writes t before between NoRoom
-    no_room l = record { result_is = rw (e, short); after_is = rw (e, short) v.after_is }
+    pub no_room : length before < n → Writes t before before (Err NoRoom)
+    no_room l = record { result_is = rw (e, short); after_is = rw (e, short) }
       where
         short : ltb (length before) (length (table_bytes t)) ≡ true
-        short = lt-ltb (length before) (length (table_bytes t)) (omega (arith, v.next_is, ap length v.after_is))
+        short = lt-ltb (length before) (length (table_bytes t)) (omega (arith, v.after_is))
 
-    pub placed : {after : List ℕ} {next : ℕ} → n ≤ length between → Passed true between after 0 next (table_items t) → Writes t before after (Wrote next)
+    pub placed : {after : List ℕ} {next : ℕ} → n ≤ length before → Fills before after 0 next (table_items t) → Writes t before after (Ok next)
     placed {after} {next} h w =
-        let f = in_front_lem (omega (arith, v.next_is)) w in
-        record {
-          result_is = rw (e, room) (ap Wrote f.0);
-          after_is = rw (e, room) (f.1 ∙ ap (λ (b : List ℕ). table_bytes t ++ drop (length (table_bytes t)) b) v.after_is);
-        }
+        let f = in_front_lem (omega (arith, v.after_is)) w in
+        record { result_is = rw (e, room) (ap Ok f.0); after_is = rw (e, room) f.1 }
       where
         room : ltb (length before) (length (table_bytes t)) ≡ false
-        room = le-ltb (length before) (length (table_bytes t)) (omega (arith, v.next_is, ap length v.after_is))
-
-module _ (t : Table) (before : List ℕ) where
-  pub many_tasks : tasks_most < t.tasks → Writes t before before OutOfRange
-  unfolding overfull
-  many_tasks h = record { result_is = rw (lt-ltb tasks_most t.tasks h); after_is = rw (lt-ltb tasks_most t.tasks h) }
-
-  pub many_phases : {found : Bool} → t.tasks ≤ tasks_most → found ≡ long_task t → found ≡ true → Writes t before before OutOfRange
-  unfolding overfull
-  many_phases h e f = record { result_is = rw (le-ltb tasks_most t.tasks h, sym e ∙ f); after_is = rw (le-ltb tasks_most t.tasks h, sym e ∙ f) }
+        room = le-ltb (length before) (length (table_bytes t)) (omega (arith, v.after_is))
 
 -- any two outcomes that the contract allows are equal
-pub one_outcome : {t : Table} {before after after' : List ℕ} {r r' : TableWritten} → Writes t before after r → Writes t before after' r' → (r ≡ r') × (after ≡ after')
+pub one_outcome : {t : Table} {before after after' : List ℕ} {r r' : Result ℕ TableError} → Writes t before after r → Writes t before after' r' → (r ≡ r') × (after ≡ after')
 one_outcome w v = (w.result_is ∙ sym v.result_is, w.after_is ∙ sym v.after_is)

@@ -11,12 +11,12 @@ use lib.Seq.{take_at}
 use Rattle.model.specs.Ranges.{phases_most, tasks_most}
 use Rattle.finite.proofs.laws.Tests.{fails, ltb_decides}
 use Rattle.finite.proofs.laws.Searches.{any_decides}
-use Rattle.std.specs.Prelude.{if◌then◌else◌}
+use Rattle.std.specs.Prelude.{if◌then◌else◌, Result, Ok, Err}
 use Rattle.table.specs.declared.Table.{Table}
 use Rattle.table.specs.Parse.{got, table}
 use Rattle.table.specs.Valid.{Valid}
-use Rattle.writer.specs.declared.TableWritten.{TableWritten}
-use Rattle.writer.specs.declared.TableWritten.TheVariants.{Wrote, NoRoom, OutOfRange}
+use Rattle.writer.specs.declared.TableError.{TableError}
+use Rattle.writer.specs.declared.TableError.TheVariants.{NoRoom, OutOfRange}
 use Rattle.writer.specs.Written.{table_bytes, overfull, Writes}
 use Rattle.writer.proofs.Outcomes.{long_task}
 use Rattle.writer.proofs.RoundTrip.{table_round_trip}
@@ -31,30 +31,30 @@ unfolding overfull
 not_overfull t v = rw (le-ltb tasks_most t.tasks v.in_range.items.tasks, no_long_task t v)
 
 -- a valid table is written where there is room
-pub valid_written : {t : Table} {before after : List ℕ} {r : TableWritten} → Valid t → length (table_bytes t) ≤ length before → Writes t before after r
-    → r ≡ Wrote (length (table_bytes t))
+pub valid_written : {t : Table} {before after : List ℕ} {r : Result ℕ TableError} → Valid t → length (table_bytes t) ≤ length before → Writes t before after r
+    → r ≡ Ok (length (table_bytes t))
 valid_written {t} {before} v h w = w.result_is ∙ rw (not_overfull t v, le-ltb (length before) (length (table_bytes t)) h)
 
--- what the answer `Wrote` says
-pub written : (t : Table) (before after : List ℕ) (n : ℕ) → Writes t before after (Wrote n)
+-- what the answer `Ok` says
+pub written : (t : Table) (before after : List ℕ) (n : ℕ) → Writes t before after (Ok n)
     → (length (table_bytes t) ≡ n) × (after ≡ table_bytes t ++ drop (length (table_bytes t)) before)
 written t before after n w = go (overfull t) (ltb (length before) (length (table_bytes t))) w.result_is w.after_is
   where
-    go : (x y : Bool) → Wrote n ≡ (if x then OutOfRange else if y then NoRoom else Wrote (length (table_bytes t)))
+    go : (x y : Bool) → Ok n ≡ (if x then Err OutOfRange else if y then Err NoRoom else Ok (length (table_bytes t)))
         → after ≡ (if x then before else if y then before else table_bytes t ++ drop (length (table_bytes t)) before)
         → (length (table_bytes t) ≡ n) × (after ≡ table_bytes t ++ drop (length (table_bytes t)) before)
     go true y e f = absurd (never e)
       where
-        never : Wrote n ≡ OutOfRange → ⊥
+        never : Ok n ≡ Err OutOfRange → ⊥
         never e = let z : ◌≡◌ {A = ℕ} 0 1 = cc in omega arith
     go false true e f = absurd (never e)
       where
-        never : Wrote n ≡ NoRoom → ⊥
+        never : Ok n ≡ Err NoRoom → ⊥
         never e = let z : ◌≡◌ {A = ℕ} 0 1 = cc in omega arith
     go false false e f = (cc, f)
 
 -- What was written is read back.
-pub written_back : (t : Table) (before after : List ℕ) (n : ℕ) → Valid t → Writes t before after (Wrote n) → table (take n after) 0 ≡ got t n
+pub written_back : (t : Table) (before after : List ℕ) (n : ℕ) → Valid t → Writes t before after (Ok n) → table (take n after) 0 ≡ got t n
 written_back t before after n v w =
     let e = written t before after n w in
     ap (λ (s : List ℕ). table s 0) (ap (take n) e.1 ∙ take_at (table_bytes t) (drop (length (table_bytes t)) before) n e.0)

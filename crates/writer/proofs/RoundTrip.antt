@@ -11,7 +11,8 @@ use Rattle.model.specs.Ranges.{cost_most, horizon_most, jobs_most, phases_most, 
 use Rattle.finite.specs.Finite.{join_to}
 use Rattle.finite.proofs.laws.Lists.{join_alike, join_from}
 use Rattle.groups.specs.Encode.{encode, encode_all}
-use Rattle.groups.proofs.Numbers.{none, cons, append, encode_all_append}
+use Rattle.groups.specs.SinkLaws.{none, append, encode_all_append}
+use Rattle.groups.proofs.Numbers.{cons}
 use Rattle.groups.proofs.RoundTrip.{round_trip}
 use Rattle.model.specs.Arrays.{empty_arrays}
 use Rattle.model.proofs.laws.Arrays.{phase_at_lem}

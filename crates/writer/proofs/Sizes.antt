@@ -5,7 +5,8 @@ use native.Mathlib.Omega.{arith}
 use lib.ListN.{length, get_or}
 use Rattle.finite.specs.Finite.{join_to}
 use Rattle.groups.specs.Encode.{encode_all}
-use Rattle.groups.proofs.Numbers.{cons, join_short, none}
+use Rattle.groups.specs.SinkLaws.{none}
+use Rattle.groups.proofs.Numbers.{cons, join_short}
 use Rattle.groups.proofs.Writing.{short}
 use Rattle.model.specs.Ranges.{cost_most, work_most}
 use Rattle.model.proofs.laws.Arrays.{phase_at_lem}

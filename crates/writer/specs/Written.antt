@@ -1,12 +1,12 @@
 -- DEFINITIONS. The bytes of a table, as document 01 has them ("Bytes of table and answer"), and what writing them gives and leaves.
-use Rattle.std.specs.Prelude.{ℕ, ◌+◌, ◌*◌, List, [], ◌∷◌, ◌++◌, Bool, ◌||◌, ◌≡◌, length, get_or, drop, ltb}
+use Rattle.std.specs.Prelude.{ℕ, ◌+◌, ◌*◌, List, [], ◌∷◌, ◌++◌, Bool, ◌||◌, ◌≡◌, length, get_or, drop, ltb, Result, Ok, Err}
 use Rattle.model.specs.Ranges.{phases_most, tasks_most}
 use Rattle.finite.specs.Finite.{any_to, join_to}
 use Rattle.std.specs.Prelude.{if◌then◌else◌}
 use Rattle.groups.specs.Encode.{encode_all}
 use Rattle.table.specs.declared.Table.{Table}
-use Rattle.writer.specs.declared.TableWritten.{TableWritten}
-use Rattle.writer.specs.declared.TableWritten.TheVariants.{Wrote, NoRoom, OutOfRange}
+use Rattle.writer.specs.declared.TableError.{TableError}
+use Rattle.writer.specs.declared.TableError.TheVariants.{NoRoom, OutOfRange}
 
 -- a phase, at a place of the arrays: c, q
 abbrev pub phase_items : (work cost : List ℕ) → ℕ → List ℕ
@@ -30,11 +30,11 @@ unfoldable pub overfull : Table → Bool
 overfull t = ltb tasks_most t.tasks || any_to t.tasks (λ i. ltb phases_most (get_or t.phases i 0))
 
 -- what writing a table into a buffer of so many bytes answers
-abbrev pub result_of : Table → (room : ℕ) → TableWritten
+abbrev pub result_of : Table → (room : ℕ) → Result ℕ TableError
 result_of t room =
-    if overfull t then OutOfRange
-    else if ltb room (length (table_bytes t)) then NoRoom
-    else Wrote (length (table_bytes t))
+    if overfull t then Err OutOfRange
+    else if ltb room (length (table_bytes t)) then Err NoRoom
+    else Ok (length (table_bytes t))
 
 -- the table's bytes and then the buffer as it was found; where nothing is written it stays as it was found
 abbrev pub buffer_of : Table → (buffer : List ℕ) → List ℕ
@@ -44,6 +44,6 @@ buffer_of t buffer =
     else table_bytes t ++ drop (length (table_bytes t)) buffer
 
 -- what writing gives and leaves
-pub record Writes (t : Table) (before after : List ℕ) (result : TableWritten) : Type 0 where
+pub record Writes (t : Table) (before after : List ℕ) (result : Result ℕ TableError) : Type 0 where
   pub result_is : result ≡ result_of t (length before)
   pub after_is : after ≡ buffer_of t before

@@ -1,14 +1,6 @@
--- `answer::refused` meets its contract: three numbers and three behind them, and there is room for all. Assumes nothing.
-use borrow.Author.Rules.{rules}
-use Rattle.groups.proofs.Passes.{three_passed}
-use Rattle.answer.proofs.Lengths.{refused_first, refused_rest}
+-- `answer::refused` meets its contract: six numbers, and there is room for all. Assumes nothing.
+use Rattle.answer.proofs.Lengths.{refused_fits}
 use Rattle.answer.proofs.refused.Goals as goal
 
-pub three-at-requires : goal.three-at-requires
-three-at-requires c = search (rules, refused_first)
-
-pub three-requires : goal.three-requires
-three-requires c = search (rules, refused_rest)
-
-pub returns : goal.returns
-returns c = search (rules, three_passed)
+pub pass-requires-clause-room : goal.pass-requires-clause-room
+pass-requires-clause-room c = refused_fits _ _ _ _ _ c.requires.1

@@ -1,28 +1,19 @@
-use Prim.Native.Nat.{◌≤◌}
-use native.Mathlib.Omega.{arith}
-use borrow.Author.Rules.{rules}
-use lib.ListN.{get_or}
-use Rattle.groups.proofs.Passes.{begins, part_fits, part_passed, all_passed, same_long}
+use Rattle.std.proofs.Common.{◌≤◌, ◌*◌, ◌+◌, length, get_or, arith}
+use Rattle.groups.proofs.Passes.{begins, part_fits, part_passed}
+use Rattle.answer.proofs.Slices.{its_numbers}
 use Rattle.answer.proofs.tasks.Goals as goal
 
 pub loop-i-init : goal.loop-i-init
-loop-i-init c = search (rules, begins)
+loop-i-init g c = begins g.S.Sink.laws c.requires.room
 
-pub overflow_cast-phases : goal.overflow_cast-phases
-overflow_cast-phases c =
-    let few : get_or c.args.phases.now c.loop-i.i 0 ≤ 8 = c.requires.1 c.loop-i.i in
-    omega (arith, few)
-
-pub task-next-requires : goal.task-next-requires
-task-next-requires c =
-    let few : get_or c.args.phases.now c.loop-i.i 0 ≤ 8 = c.requires.1 c.loop-i.i in
-    (omega (arith, few), search (rules, part_fits))
+pub task-requires : goal.task-requires
+task-requires g c =
+    let i = c.loop-i.i in
+    let inside : 8 * i + get_or c.args.table.now.phases i 0 ≤ length c.args.counts.now = omega (arith, c.requires.few_phases i) in
+    part_fits g.S.Sink.laws c.loop-i.invariant (its_numbers _ _ _ _ inside) c.loop-i-test.true
 
 pub loop-i-preserved : goal.loop-i-preserved
-loop-i-preserved c = search (rules, part_passed)
-
-pub shape_of-out : goal.shape_of-out
-shape_of-out c = search (rules, same_long)
-
-pub returns : goal.returns
-returns c = search (rules, all_passed)
+loop-i-preserved g c =
+    let i = c.loop-i.i in
+    let inside : 8 * i + get_or c.args.table.now.phases i 0 ≤ length c.args.counts.now = omega (arith, c.requires.few_phases i) in
+    part_passed g.S.Sink.laws c.loop-i.invariant (its_numbers _ _ _ _ inside) c.task.ensures

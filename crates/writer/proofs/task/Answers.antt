@@ -1,13 +1,20 @@
--- `writer::task` meets its contract: three numbers, and the phases behind them. Assumes nothing.
-use borrow.Author.Rules.{rules}
-use Rattle.groups.proofs.Passes.{three_fit, behind_three_fits, three_passed}
+-- `writer::task` meets its contract: three numbers, and the phases' behind them. Assumes nothing.
+use Rattle.writer.specs.Written.{task_items}
 use Rattle.writer.proofs.task.Goals as goal
 
-pub three-next-requires : goal.three-next-requires
-three-next-requires c = search (rules, three_fit)
+pub pass-requires-clause-room : goal.pass-requires-clause-room
+unfolding task_items
+pass-requires-clause-room g c =
+    rw (c.from-spacing.ensures, c.from-deadline.ensures, c.from.ensures) (g.S.Sink.laws.front_fits _ _ _ c.requires.room)
 
-pub phases-requires : goal.phases-requires
-phases-requires c = search (rules, behind_three_fits)
+pub phases-requires-clause-room : goal.phases-requires-clause-room
+unfolding task_items
+phases-requires-clause-room g c =
+    let head = rw (c.from-spacing.ensures, c.from-deadline.ensures, c.from.ensures) at c.pass.ensures in
+    g.S.Sink.laws.rest_fits _ _ _ _ head c.requires.room
 
 pub returns : goal.returns
-returns c = search (rules, three_passed)
+unfolding task_items
+returns g c =
+    let head = rw (c.from-spacing.ensures, c.from-deadline.ensures, c.from.ensures) at c.pass.ensures in
+    g.S.Sink.laws.joined _ _ _ _ _ head c.phases.ensures
