@@ -23,6 +23,7 @@ fn filled<const N: usize, F: Fn(usize) -> u32>(f: F) -> [u32; N]
 }
 
 // The count at a place: the least for its task's margin, and 0 where no phase stands.
+#[tactic(auto, unfolding(crate::specs::Counts::count_at))]
 fn count_at(table: &Table, cuts: &[u64; 32], place: usize) -> u32
     requires { (place < 256) × Below table.now.tasks (λ i. Roomy (tasks_of table.now) (get_or cuts.now i 0) i) }
     ensures { result ≡ count_at table.now.tasks (tasks_of table.now) (λ i. get_or cuts.now i 0) place }
@@ -47,6 +48,7 @@ pub fn counts(table: &Table, cuts: &[u64; 32]) -> [u32; 256]
 }
 
 // The longest piece at a task's place, and 0 where there is no task.
+#[tactic(auto, unfolding(crate::specs::Counts::longest_at))]
 fn longest_at(table: &Table, counts: &[u32; 256], i: usize) -> u32
     requires { Below table.now.tasks (InPieces (tasks_of table.now) (phase_at counts.now)) }
     ensures { result ≡ longest_at table.now.tasks (tasks_of table.now) (phase_at counts.now) i }

@@ -7,6 +7,7 @@ ghost use Rattle.pieces.specs.Task.{PhaseFits};
 
 // The length of a piece, numbered from 0. It is what ℕ's division gives for every number (by 0, the quotient is 0 and all is left), so that nobody
 // who asks has to know a range.
+#[tactic(auto, using(crate::specs::laws::Numbers::division), unfolding(model::specs::Phase::piece_length))]
 pub fn length(work: u32, cost: u32, count: u32, piece: u32) -> u64
     ensures { result ≡ piece_length work cost count piece }
 {
@@ -16,6 +17,7 @@ pub fn length(work: u32, cost: u32, count: u32, piece: u32) -> u64
 }
 
 // The longest piece.
+#[tactic(auto, using(crate::specs::laws::Task::rounding), unfolding(model::specs::Phase::longest_piece))]
 pub fn longest(work: u32, cost: u32, count: u32) -> u64
     requires { 0 < count }
     ensures { (result ≡ longest_piece work cost count) × (result ≤ work + cost) }
@@ -31,6 +33,7 @@ pub fn room(cost: u32, margin: u64) -> bool
 }
 
 // The least count that does.
+#[tactic(auto, using(crate::specs::laws::Task::rounding))]
 pub fn need(work: u32, cost: u32, margin: u64) -> u64
     requires { (has_room cost margin ≡ true) × (margin ≤ horizon_most) }
     ensures { (result ≡ needed work cost margin) × (result ≤ work) }

@@ -58,6 +58,7 @@ pub fn piece_at(table: &Table, counts: &[u32; 256], i: usize, j: usize) -> u64
 }
 
 // The budget of task i where each of its phases has the least count for a margin.
+#[tactic(auto, using(crate::specs::laws::Loops::adding_turns))]
 pub fn budget_under(table: &Table, i: usize, margin: u64) -> u64
     requires { Roomy (tasks_of table.now) margin i }
     ensures { result ≡ (phases_of (tasks_of table.now)).budget (needs (phases_of (tasks_of table.now)) margin) i }
@@ -70,6 +71,7 @@ pub fn budget_under(table: &Table, i: usize, margin: u64) -> u64
 }
 
 // The longest piece of task i under the counts.
+#[tactic(auto, using(crate::specs::laws::Loops::rising_turns))]
 pub fn longest_of(table: &Table, counts: &[u32; 256], i: usize) -> u64
     requires { InPieces (tasks_of table.now) (phase_at counts.now) i }
     ensures { (result ≡ longest (tasks_of table.now) (phases_of (tasks_of table.now)) (phase_at counts.now) i) × (result ≤ piece_most) }

@@ -33,6 +33,9 @@ pub adding_all : {S : Tasks} {M i j sum : ℕ} → Adding S M i j sum → j ≡ 
 adding_all {S} {M} {i} k e =
     k.is ∙ ap (λ (n : ℕ). sum_to n (brings S (needs (phases_of S) M) i)) e ∙ sym ((pieces_of S).whole (needs (phases_of S) M) i)
 
+-- its turns
+pub ruleset adding_turns = (adding_none, adding_more, adding_all)
+
 -- ---- the longest piece of task i, over its first j phases
 
 pub record Rising (S : Tasks) (x : Choice) (i j top : ℕ) : Type 0 where
@@ -51,3 +54,6 @@ rising_more {j = j} cut l k e et =
 pub rising_all : {S : Tasks} {x : Choice} {i j top : ℕ} → Rising S x i j top → j ≡ S.m i → top ≡ longest S (phases_of S) x i
 unfolding longest
 rising_all {S} {x} {i} k e = k.is ∙ ap (λ (n : ℕ). max_to n (λ k. (phases_of S).longest_piece i k (x i k))) e
+
+-- its turns
+pub ruleset rising_turns = (rising_none, rising_more, rising_all)

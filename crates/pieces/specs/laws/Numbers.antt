@@ -32,3 +32,6 @@ quotient_of (Some q) a b some = some.1
 pub left_of : (r : Option ℕ) (a b : ℕ) → SomeIff r (0 < b) (a % b) → unwrap_or r a ≡ a % b
 left_of None a b none = let by_zero : b ≡ 0 = omega (arith, none) in rw by_zero (sym (mod-zero a))
 left_of (Some q) a b some = some.1
+
+-- what forms the length of a piece
+pub ruleset division = (one_where, quotient_of, left_of)

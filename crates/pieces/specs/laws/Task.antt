@@ -12,6 +12,7 @@ use Rattle.model.specs.Works.{longest}
 use Rattle.model.proofs.laws.Plain.{ceil_least, ceil_most, ceil_pos, pieces_of}
 use Rattle.pieces.specs.Bounds.{budget_most, phase_most, piece_most}
 use Rattle.pieces.specs.Task.{InPieces, PhaseFits, Roomy, WorkIn, needs}
+use Rattle.pieces.specs.laws.Numbers.{rounded_up}
 use Rattle.pieces.specs.laws.Sums.{sum_most}
 
 -- ---- a phase
@@ -23,6 +24,9 @@ work_in S i j p = record { work_least = p.work_least; work_at_most = p.work_at_m
 -- no count that is needed is above the work
 pub need_most : (c q M : ℕ) → has_room q M ≡ true → needed c q M ≤ c
 need_most c q M e = ceil_most c (M - q) (omega (arith, ltb-true q M e))
+
+-- what the code's quotients rounded up are, and at most
+pub ruleset rounding = (rounded_up, ceil_most, need_most)
 
 -- the quotient that is formed, by the numbers that it is formed of
 pub need_by : (c q M a b r : ℕ) → a ≡ c → b ≡ q → r ≡ ceil_div a (M - b) → has_room q M ≡ true → (r ≡ needed c q M) × (r ≤ c)
