@@ -26,6 +26,13 @@ phase_place xs p =
     let place : 8 * (p / 8) + p % 8 ≡ p = omega arith in
     phase_at_lem xs (p / 8) (p % 8) (omega arith) ∙ ap (λ (k : ℕ). get_or xs k 0) place
 
+-- the place of one of the eight phases, as a phase of its task
+pub place_phase {ℓ} : {A : Type ℓ} (f : ℕ → ℕ → A) (i j : ℕ) → j < 8 → f ((8 * i + j) / 8) ((8 * i + j) % 8) ≡ f i j
+place_phase f i j l =
+    let q : (8 * i + j) / 8 ≡ i = omega arith in
+    let r : (8 * i + j) % 8 ≡ j = omega arith in
+    ap₂ f q r
+
 -- ---- beyond the arrays
 
 pub beyond : (l : List ℕ) (n i : ℕ) → length l ≡ n → n ≤ i → get_or l i 0 ≡ 0
@@ -56,9 +63,7 @@ at_phase f i j h g = go (dec_lt j 8)
   where
     go : Dec (j < 8) → phase_at (listed_by_phase f) i j ≡ f i j
     go (yes l) =
-        let q : (8 * i + j) / 8 ≡ i = omega arith in
-        let r : (8 * i + j) % 8 ≡ j = omega arith in
-        let e : f ((8 * i + j) / 8) ((8 * i + j) % 8) ≡ f i j = ap₂ f q r in
+        let e = place_phase f i j l in
         phase_at_lem (listed_by_phase f) i j l ∙
         at_place 256 (λ p. f (p / 8) (p % 8)) (8 * i + j) (λ k. e ∙ h (omega arith)) ∙ e
     go (no l) = phase_none (listed_by_phase f) i j (omega arith) ∙ sym (g (omega arith))

@@ -1,7 +1,7 @@
 -- Every place of an array, by whether it is used: tests, numbers read as they were written, numbers one behind the other.
 -- Assumes nothing.
 use Rattle.std.specs.Prelude.{◌≡◌, Bool, List, [], ◌∷◌, ℕ, zero, suc, ◌+◌, ◌*◌, ◌/◌, ◌%◌, ◌≤◌, ◌<◌, get_or, length}
-use Rattle.std.proofs.Common.{ap₂, subst, arith}
+use Rattle.std.proofs.Common.{subst, arith}
 use Rattle.std.proofs.Math.Decide.{dec_lt}
 use Rattle.finite.specs.Finite.{Below, list_to}
 use Rattle.finite.proofs.laws.Decided.{by_test, every, within_decides}
@@ -10,15 +10,11 @@ use Rattle.std.specs.Bool.{Decides}
 use Rattle.model.specs.Arrays.{listed_by_phase, phase_at}
 use Rattle.model.specs.Ranges.{FromTo, all_phases, number_test, phases_most, tasks_most}
 use Rattle.model.specs.Tasks.{Each, Tasks}
-use Rattle.model.proofs.laws.Arrays.{at_phase, at_place, phase_none, phase_past}
+use Rattle.model.proofs.laws.Arrays.{at_phase, at_place, phase_none, phase_past, place_phase}
 
 -- what holds of every place holds of every phase of every task
 phases_from_lem : (P : ℕ → ℕ → Type 0) → Below 256 (λ p. P (p / 8) (p % 8)) → (i j : ℕ) → i < 32 → j < 8 → P i j
-phases_from_lem P f i j l k =
-    let q : (8 * i + j) / 8 ≡ i = omega arith in
-    let r : (8 * i + j) % 8 ≡ j = omega arith in
-    let e : P ((8 * i + j) / 8) ((8 * i + j) % 8) ≡ P i j = ap₂ P q r in
-    subst (λ T. T) e (f (8 * i + j) (omega arith))
+phases_from_lem P f i j l k = subst (λ T. T) (place_phase P i j k) (f (8 * i + j) (omega arith))
 
 -- the numbers of phases of a table
 pub record Few (S : Tasks) : Type 0 where

@@ -38,13 +38,16 @@ task_decides S i =
     (λ t. (t.no_spacing, t.no_deadline, t.no_phases))
     (three (Decides-eqb (S.T i) 0) (Decides-eqb (S.D i) 0) (Decides-eqb (S.m i) 0)))
 
--- a table in range has few phases
-pub few_of : (S : Tasks) → InTable S → Few S
-few_of S t = record { tasks = t.tasks; phases = λ i. go i (dec_lt i S.n); none = λ i l. (t.no_task i l).no_phases }
+-- tasks in range have few phases
+few_tasks : (S : Tasks) → S.n ≤ tasks_most → Below S.n (TaskIn S) → ((i : ℕ) → S.n ≤ i → NoTask S i) → Few S
+few_tasks S tasks task no_task = record { tasks = tasks; phases = λ i. go i (dec_lt i S.n); none = λ i l. (no_task i l).no_phases }
   where
     go : (i : ℕ) → Dec (i < S.n) → S.m i ≤ phases_most
-    go i (yes l) = (t.task i l).phases_at_most
-    go i (no l) = omega (arith, (t.no_task i (omega arith)).no_phases)
+    go i (yes l) = (task i l).phases_at_most
+    go i (no l) = omega (arith, (no_task i (omega arith)).no_phases)
+
+pub few_of : (S : Tasks) → InTable S → Few S
+few_of S t = few_tasks S t.tasks t.task t.no_task
 
 -- ---- the test
 
@@ -68,11 +71,7 @@ module _ (a : Arrays) (sized : Sized a) where
       }
 
   few : TasksIn → Few S
-  few h = record { tasks = h.0; phases = λ i. go i (dec_lt i S.n); none = λ i l. (no_task h i l).no_phases }
-    where
-      go : (i : ℕ) → Dec (i < S.n) → S.m i ≤ phases_most
-      go i (yes l) = ((h.1 i (omega (arith, h.0))).0 l).phases_at_most
-      go i (no l) = omega (arith, (no_task h i (omega arith)).no_phases)
+  few h = few_tasks S h.0 (λ i l. (h.1 i (omega (arith, h.0))).0 l) (no_task h)
 
   -- THE TEST DECIDES THE RANGE
   pub table_decides : Decides (table_test S) (InTable S)

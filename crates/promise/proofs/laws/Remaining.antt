@@ -57,6 +57,12 @@ module _ (S : Tasks) (x : Choice) (i : ℕ) (ranged : Ranged S x i) where
     pub phase_all : sum_to (x i (j - 1)) (lengths_of S x i (j - 1)) ≡ brings S x i (j - 1)
     phase_all = ranged.all (j - 1) (omega arith)
 
+    -- the same, at a piece that is the last
+    phase_done : x i (j - 1) ≤ p → sum_to p (lengths_of S x i (j - 1)) ≡ brings S x i (j - 1)
+    phase_done h =
+        let last : p ≡ x i (j - 1) = omega arith in
+        ap (λ z. sum_to z (lengths_of S x i (j - 1))) last ∙ phase_all
+
     pub finished_most : finished_work S x i j p ≤ (phases_of S).budget x i
     unfolding finished_work
     finished_most =
@@ -73,18 +79,14 @@ module _ (S : Tasks) (x : Choice) (i : ℕ) (ranged : Ranged S x i) where
     unfolding finished_work sum_to
     finished_phase h =
         let e : j + 1 - 1 ≡ j = omega arith in
-        let f : p ≡ x i (j - 1) = omega arith in
-        let g : sum_to p (lengths_of S x i (j - 1)) ≡ brings S x i (j - 1) = ap (λ z. sum_to z (lengths_of S x i (j - 1))) f ∙ phase_all in
-        omega (arith, ap (λ z. sum_to z (brings S x i)) e, sum_last j (brings S x i) at.phase_least)
+        omega (arith, phase_done h, ap (λ z. sum_to z (brings S x i)) e, sum_last j (brings S x i) at.phase_least)
 
     -- nothing is left after the last piece of the last phase
     pub finished_all : S.m i ≤ j → x i (j - 1) ≤ p → finished_work S x i j p ≡ (phases_of S).budget x i
     unfolding finished_work
     finished_all a b =
-        let f : p ≡ x i (j - 1) = omega arith in
-        let g : sum_to p (lengths_of S x i (j - 1)) ≡ brings S x i (j - 1) = ap (λ z. sum_to z (lengths_of S x i (j - 1))) f ∙ phase_all in
         let e : j ≡ S.m i = omega arith in
-        omega (arith, ranged.whole, sum_last j (brings S x i) at.phase_least, ap (λ z. sum_to z (brings S x i)) e)
+        omega (arith, phase_done b, ranged.whole, sum_last j (brings S x i) at.phase_least, ap (λ z. sum_to z (brings S x i)) e)
 
 -- the work that a job at piece p of phase j still has to do if nothing ends early: with the ticks left of that piece where it runs
 unfoldable pub remaining : Tasks → Choice → ℕ → ℕ → ℕ → ℕ → ℕ → ℕ

@@ -52,18 +52,16 @@ module _ (S : Tasks) (x : Choice) where
   pub today_pick : (s : State) → pick_by S x (best_of S) s ≡ pick S x s
   today_pick s = today_pick_at s s.run
 
+  today_picked : (s : State) (mask : ℕ → Bool) → pick_by S x (best_of S) (admit_at S 0 mask (λ i. 0) s) ≡ pick S x (admit S mask s)
+  today_picked s mask = ap (pick_by S x (best_of S)) (today_admit s mask) ∙ today_pick (admit S mask s)
+
   pub today_tick : (r : Request) (s : State) → late_tick S x 0 (best_of S) (fresh r) s ≡ tick S x r s
   today_tick r s =
-      let p : pick_by S x (best_of S) (admit_at S 0 r.mask (λ i. 0) s) ≡ pick S x (admit S r.mask s) =
-      ap (pick_by S x (best_of S)) (today_admit s r.mask) ∙ today_pick (admit S r.mask s) in
-      ap (λ p. elapse_at S 0 (work_at S x r.flag p p.run)) p ∙
+      ap (λ p. elapse_at S 0 (work_at S x r.flag p p.run)) (today_picked s r.mask) ∙
       today_elapse (work_at S x r.flag (pick S x (admit S r.mask s)) (pick S x (admit S r.mask s)).run)
 
   pub today_answer : (r : Request) (s : State) → late_answer S x 0 (best_of S) (fresh r) s ≡ answer_of S x r s
-  today_answer r s =
-      let p : pick_by S x (best_of S) (admit_at S 0 r.mask (λ i. 0) s) ≡ pick S x (admit S r.mask s) =
-      ap (pick_by S x (best_of S)) (today_admit s r.mask) ∙ today_pick (admit S r.mask s) in
-      ap₂ (λ l p. answer_by S x l r.flag p p.run) (today_lets s r.mask) p
+  today_answer r s = ap₂ (λ l p. answer_by S x l r.flag p p.run) (today_lets s r.mask) (today_picked s r.mask)
 
   pub today_initial : late_initial S 0 ≡ initial S
   today_initial =
