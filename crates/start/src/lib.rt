@@ -36,28 +36,25 @@ pub struct Started {
 }
 
 // What was judged of a table, as a start.
-fn begun(read: Table, judged: Judged) -> Started
-    requires { Valid read × WalkJudges (tasks_of read) judged }
-    ensures { Begins (tasks_of read) result }
+fn begun(table: &Table, judged: &Judged) -> Started
+    requires { Valid table.now × WalkJudges (tasks_of table.now) judged.now }
+    ensures { Begins (tasks_of table.now) result }
 {
-    if judged.accepted {
-        return Started {
+    match &judged.verdict {
+        Ok(least) => Started {
             how: How::Ready,
-            dispatcher: ready(&read, &judged.counts),
-        };
-    }
-    let task = judged.task as u32;
-    let phase = judged.phase as u32;
-    let refusal = Refusal {
-        witness: judged.witness,
-        demand: judged.demand,
-        points: judged.points,
-        task,
-        phase,
-    };
-    Started {
-        how: How::Refused(refusal),
-        dispatcher: Dispatcher::empty(),
+            dispatcher: ready(table, &least.counts),
+        },
+        Err(refused) => Started {
+            how: How::Refused(Refusal {
+                witness: refused.witness,
+                demand: refused.demand,
+                points: judged.points,
+                task: refused.task as u32,
+                phase: refused.phase as u32,
+            }),
+            dispatcher: Dispatcher::empty(),
+        },
     }
 }
 
@@ -66,7 +63,10 @@ pub fn start(table: &[u8]) -> Started
     ensures { Starts table.now result }
 {
     match table::read(table) {
-        Ok(read) => begun(read.table, walk::judge::judge(read.table, read.horizon)),
+        Ok(read) => {
+            let judged = walk::judge::judge(&read.table, read.horizon);
+            begun(&read.table, &judged)
+        }
         Err(away) => Started {
             how: How::TurnedAway(away),
             dispatcher: Dispatcher::empty(),

@@ -1,7 +1,7 @@
 -- What the judge's verdict gives at the start, and that bytes allow one start only.
 -- Assumes nothing.
 use Rattle.std.specs.Prelude.{◌≡◌, refl, Bool, true, false, cond, ◌&&◌, List, ℕ, ltb}
-use Rattle.std.proofs.Common.{sym, ap, ◌∙◌, true≢false, arith, ltb-true}
+use Rattle.std.proofs.Common.{sym, ap, ◌∙◌, arith, ltb-true}
 use Rattle.records.specs.Record.{empty_record}
 use Rattle.records.specs.Start.{ready_record}
 use Rattle.model.specs.Arrays.{phase_at}
@@ -22,31 +22,23 @@ use Rattle.table.specs.TaskModel.{tasks_of}
 use Rattle.table.specs.declared.Reason.{Reason}
 use Rattle.table.specs.declared.Table.{Table}
 use Rattle.walk.proofs.Limits.{table_sane}
-use Rattle.walk.specs.Judge.{Accepts, Refuses, WalkJudges, accepts, refuses}
-use Rattle.walk.specs.declared.judge.Judged.{Judged}
+use Rattle.walk.specs.Judge.{Accepts, Refuses}
+use Rattle.walk.specs.declared.judge.Least.{Least}
+use Rattle.walk.specs.declared.judge.Refused.{Refused as Walked}
 
 -- ---- the verdict
 
-pub was_accepted : (S : Tasks) (v : Judged) → WalkJudges S v → v.accepted ≡ true → Accepts S v
-was_accepted S v (accepts a) e = a
-was_accepted S v (refuses b) e = absurd (true≢false (sym e ∙ b.accepted))
-
-pub was_refused : (S : Tasks) (v : Judged) → WalkJudges S v → v.accepted ≡ false → Refuses S v
-was_refused S v (accepts a) e = absurd (true≢false (sym a.accepted ∙ e))
-was_refused S v (refuses b) e = b
-
-module _ (S : Tasks) (v : Judged) (r : Started) where
-  pub accepted_begins : Accepts S v → r.how ≡ Ready → r.dispatcher ≡ ready_record S (phase_at v.counts) → Begins S r
-  accepted_begins a how d = record {
-    verdict = accepted (phase_at v.counts) v.points;
+module _ (S : Tasks) {points : ℕ} (r : Started) where
+  pub accepted_begins : {l : Least} → Accepts S points l → r.how ≡ Ready → r.dispatcher ≡ ready_record S (phase_at l.counts) → Begins S r
+  accepted_begins {l} a how d = record {
+    verdict = accepted (phase_at l.counts) points;
     judged = a.verdict;
-    started = (how, d ∙ ap (ready_record S) (sym (all_used S v.counts a.no_task a.no_phase)));
+    started = (how, d ∙ ap (ready_record S) (sym (all_used S l.counts a.no_task a.no_phase)));
   }
 
-  pub refused_begins : Refuses S v → r.how ≡ Refused (refusal v.witness v.demand v.points v.task v.phase) → r.dispatcher ≡ empty_record
-      → Begins S r
-  refused_begins b how d = record {
-    verdict = refused v.witness v.demand v.points v.task v.phase;
+  pub refused_begins : {f : Walked} → Refuses S points f → r.how ≡ Refused (refusal f.witness f.demand points f.task f.phase) → r.dispatcher ≡ empty_record → Begins S r
+  refused_begins {f} b how d = record {
+    verdict = refused f.witness f.demand points f.task f.phase;
     judged = b.verdict;
     started = (how, d);
   }
