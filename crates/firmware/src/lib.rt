@@ -7,6 +7,8 @@ ghost use Rattle.firmware.specs.Interface.{JudgesInC, judge_outcome_of, StartsIn
 
 use dispatch::Answer;
 use records::Dispatcher;
+use start::{How, Started};
+use table::TurnedAway;
 
 // What `clinkerbell_judge` returns: reason 0 and the answer's length, or the reason and the place.
 #[repr(C)]
@@ -17,20 +19,20 @@ pub struct Outcome {
     pub length: u64,
 }
 
-// The enum as C has it.
-impl From<edf::JudgeOutcome> for Outcome {
+// The result as C has it.
+impl From<Result<usize, TurnedAway>> for Outcome {
     ghost from_gives = { λ outcome in_c. in_c ≡ judge_outcome_of outcome };
 
-    fn from(outcome: edf::JudgeOutcome) -> Outcome {
+    fn from(outcome: Result<usize, TurnedAway>) -> Outcome {
         match outcome {
-            edf::JudgeOutcome::Answered(length) => Outcome {
+            Ok(length) => Outcome {
                 reason: 0,
                 place: 0,
                 length: length as u64,
             },
-            edf::JudgeOutcome::TurnedAway(reason, place) => Outcome {
-                reason: u32::from(reason),
-                place: place as u64,
+            Err(away) => Outcome {
+                reason: u32::from(u8::from(away.reason)),
+                place: away.place as u64,
                 length: 0,
             },
         }
@@ -62,10 +64,10 @@ pub struct StartOutcome {
 }
 
 // The enum beside the record, as C has them.
-impl From<start::Started> for StartOutcome {
+impl From<Started> for StartOutcome {
     ghost from_gives = { λ started in_c. in_c ≡ start_outcome_of started.how started.dispatcher };
 
-    fn from(started: start::Started) -> StartOutcome {
+    fn from(started: Started) -> StartOutcome {
         let ready = StartOutcome {
             how: 0,
             reason: 0,
@@ -78,20 +80,20 @@ impl From<start::Started> for StartOutcome {
             dispatcher: started.dispatcher,
         };
         match started.how {
-            start::How::Ready => ready,
-            start::How::Refused(witness, demand, points, task, phase) => StartOutcome {
+            How::Ready => ready,
+            How::Refused(refusal) => StartOutcome {
                 how: 1,
-                witness,
-                demand,
-                points,
-                task,
-                phase,
+                witness: refusal.witness,
+                demand: refusal.demand,
+                points: refusal.points,
+                task: refusal.task,
+                phase: refusal.phase,
                 ..ready
             },
-            start::How::TurnedAway(reason, place) => StartOutcome {
+            How::TurnedAway(away) => StartOutcome {
                 how: 2,
-                reason: u32::from(reason),
-                place: place as u64,
+                reason: u32::from(u8::from(away.reason)),
+                place: away.place as u64,
                 ..ready
             },
         }
