@@ -1,9 +1,10 @@
 -- The items of a table, by what the functions below each answer: a number, a phase, a task, the whole. Assumes nothing.
-use Prim.Native.Nat.{ℕ, ◌*◌, ◌≤◌, ◌<◌}
+use Prim.Native.Nat.{ℕ, ◌+◌, ◌-◌, ◌*◌, ◌≤◌, ◌<◌}
 use mathlib.Core.Path.{◌≡◌, refl, ap, sym, ◌∙◌}
 use mathlib.Core.List.{List, [], ◌∷◌}
 use mathlib.Core.Bool.{Bool, true, false}
 use native.Mathlib.Omega.{arith}
+use native.Mathlib.Nat.{add-sub_cancel_left, sub-zero}
 use lib.Dec.{ltb}
 use lib.ListN.{length}
 use borrow.Author.Tests.{lt-ltb, le-ltb, ltb-false}
@@ -16,13 +17,14 @@ use Rattle.groups.specs.Number.{number_at}
 use Rattle.model.specs.Ranges.{cost_most, phases_most, spacing_most, tasks_most, work_most}
 use Rattle.table.specs.declared.Reason.TheVariants.{OutOfRange, Trailing}
 use Rattle.table.specs.declared.Table.{Table}
+use Rattle.table.specs.declared.items.Reader.{Reader}
 use Rattle.table.specs.declared.TurnedAway.{TurnedAway}
 use Rattle.table.specs.Parse.{Result, got, away, Parser, and_then, ◌>>=◌, ◌>>◌, done, turned_away, tested, number_in, numbers_in, each, phase, task, nothing_behind, numbers, table, empty, with_count, with_phase, with_task, parsed_of, limit_of, reading_of}
-use Rattle.table.specs.Steps.{all_tasks, away_for, number_of, read_to}
+use Rattle.table.specs.Steps.{Reads, all_tasks, away_for, number_of, with_read}
 use Rattle.table.specs.TaskModel.{tasks_of}
 use Rattle.table.specs.Valid.{InRange}
 use Rattle.table.proofs.Ranges.{limited_by, limited_reading}
-use Rattle.table.proofs.Steps.{number_away, number_read, was_parsed, was_not_parsed}
+use Rattle.table.proofs.Steps.{reads_done, next, stop, was_parsed, was_not_parsed}
 use Rattle.table.proofs.Valid.{numbers_in_range}
 
 -- ---- a number
@@ -73,60 +75,59 @@ module _ (least most : ℕ) {s : List ℕ} {at : ℕ} {read : std.Result Number 
         rw (sym read_is, le-ltb n.value least low, le-ltb most n.value high)
 
 -- a part that was turned away, and the error that is passed on
-pub stops : {A : Type 0} {x : Result A} (a : A) {e : TurnedAway} (r : std.Result ℕ TurnedAway) → x ≡ away e.reason e.place → IsErrAnd r (λ y. y ≡ e) → x ≡ read_to r a
-stops a r is h = rw (passed_on r h) is
+pub stops : {A B : Type 0} {p : Parser A} {b m : Reader} {e : TurnedAway} (a : A) (r : std.Result B TurnedAway) → Reads p b m (std.Err e)
+    → IsErrAnd r (λ y. y ≡ e) → Reads p b m (with_read a r)
+stops a r x h = rw (passed_on r h) x
 
 -- ---- a phase
 
-module _ (k : ℕ) (t : Table) (s : List ℕ) (at : ℕ) where
-  pub no_work : {e : TurnedAway} → std.Err e ≡ number_of (number_in 1 work_most s at) → phase k t s at ≡ away e.reason e.place
+module _ (k : ℕ) (t : Table) {b m : Reader} where
+  pub no_work : {e : TurnedAway} → Reads (number_in 1 work_most) b m (std.Err e) → Reads (phase k t) b m (std.Err e)
   unfolding phase numbers_in
-  no_work is = rw (number_away _ is)
+  no_work x = stop _ (stop _ x)
 
-  module _ {work : Number} (w : std.Ok work ≡ number_of (number_in 1 work_most s at)) where
-    pub no_cost : {e : TurnedAway} → std.Err e ≡ number_of (number_in 0 cost_most s work.next) → phase k t s at ≡ away e.reason e.place
+  module _ {work : ℕ} (w : Reads (number_in 1 work_most) b m (std.Ok work)) {a : Reader} where
+    pub no_cost : {e : TurnedAway} → Reads (number_in 0 cost_most) m a (std.Err e) → Reads (phase k t) b a (std.Err e)
     unfolding phase numbers_in
-    no_cost is = rw (number_read _ w, number_away _ is)
+    no_cost x = stop _ (next _ w (stop _ (stop _ x)))
 
-    pub phase_by : {cost : Number} → std.Ok cost ≡ number_of (number_in 0 cost_most s work.next)
-        → phase k t s at ≡ got (with_phase k (work.value ∷ cost.value ∷ []) t) cost.next
+    pub phase_by : {cost : ℕ} → Reads (number_in 0 cost_most) m a (std.Ok cost) → Reads (phase k t) b a (std.Ok (with_phase k (work ∷ cost ∷ []) t))
     unfolding phase numbers_in
-    phase_by q = rw (number_read _ w, number_read _ q)
+    phase_by {cost} q = next _ (next _ w (next _ (next _ q (reads_done (cost ∷ []))) (reads_done (work ∷ cost ∷ [])))) (reads_done _)
 
 -- ---- a task
 
-module _ (i : ℕ) (t : Table) (s : List ℕ) (at : ℕ) where
-  pub no_spacing : {e : TurnedAway} → std.Err e ≡ number_of (number_in 1 spacing_most s at) → task i t s at ≡ away e.reason e.place
+module _ (i : ℕ) (t : Table) {b b1 : Reader} where
+  pub no_spacing : {e : TurnedAway} → Reads (number_in 1 spacing_most) b b1 (std.Err e) → Reads (task i t) b b1 (std.Err e)
   unfolding task
-  no_spacing is = rw (number_away _ is)
+  no_spacing x = stop _ x
 
-  module _ {spacing : Number} (T : std.Ok spacing ≡ number_of (number_in 1 spacing_most s at)) where
-    pub no_deadline : {e : TurnedAway} → std.Err e ≡ number_of (number_in 1 spacing.value s spacing.next) → task i t s at ≡ away e.reason e.place
+  module _ {spacing : ℕ} (T : Reads (number_in 1 spacing_most) b b1 (std.Ok spacing)) {b2 : Reader} where
+    pub no_deadline : {e : TurnedAway} → Reads (number_in 1 spacing) b1 b2 (std.Err e) → Reads (task i t) b b2 (std.Err e)
     unfolding task
-    no_deadline is = rw (number_read _ T, number_away _ is)
+    no_deadline x = next _ T (stop _ x)
 
-    module _ {deadline : Number} (D : std.Ok deadline ≡ number_of (number_in 1 spacing.value s spacing.next)) where
-      pub no_count : {e : TurnedAway} → std.Err e ≡ number_of (number_in 1 phases_most s deadline.next) → task i t s at ≡ away e.reason e.place
+    module _ {deadline : ℕ} (D : Reads (number_in 1 spacing) b1 b2 (std.Ok deadline)) {b3 : Reader} where
+      pub no_count : {e : TurnedAway} → Reads (number_in 1 phases_most) b2 b3 (std.Err e) → Reads (task i t) b b3 (std.Err e)
       unfolding task
-      no_count is = rw (number_read _ T, number_read _ D, number_away _ is)
+      no_count x = next _ T (next _ D (stop _ x))
 
-      -- its phases are left
-      pub task_by : {count : Number} → std.Ok count ≡ number_of (number_in 1 phases_most s deadline.next)
-          → task i t s at ≡ each phase count.value (8 * i) (with_task i spacing.value deadline.value count.value t) s count.next
+      pub task_by : {count : ℕ} {a : Reader} {r : std.Result Table TurnedAway} → Reads (number_in 1 phases_most) b2 b3 (std.Ok count)
+          → Reads (each phase (8 * i + count - 8 * i) (8 * i) (with_task i spacing deadline count t)) b3 a r → Reads (task i t) b a r
       unfolding task
-      task_by m = rw (number_read _ T, number_read _ D, number_read _ m)
+      task_by m x = next _ T (next _ D (next _ m (rw add-sub_cancel_left at x)))
 
 -- ---- the tasks, and the whole
 
-module _ (t : Table) (s : List ℕ) where
-  pub no_tasks : {e : TurnedAway} → std.Err e ≡ number_of (number_in 1 tasks_most s 0) → all_tasks t s 0 ≡ away e.reason e.place
+module _ (t : Table) {b m : Reader} where
+  pub no_tasks : {e : TurnedAway} → Reads (number_in 1 tasks_most) b m (std.Err e) → Reads (all_tasks t) b m (std.Err e)
   unfolding all_tasks
-  no_tasks is = rw (number_away _ is)
+  no_tasks x = stop _ x
 
-  -- the tasks are left
-  pub tasks_by : {count : Number} → std.Ok count ≡ number_of (number_in 1 tasks_most s 0) → all_tasks t s 0 ≡ each task count.value 0 (with_count count.value t) s count.next
+  pub tasks_by : {count : ℕ} {a : Reader} {r : std.Result Table TurnedAway} → Reads (number_in 1 tasks_most) b m (std.Ok count)
+      → Reads (each task (count - 0) 0 (with_count count t)) m a r → Reads (all_tasks t) b a r
   unfolding all_tasks
-  tasks_by n = rw (number_read _ n)
+  tasks_by n x = next _ n (rw sub-zero at x)
 
 -- parts joined from the left are joined from the right
 assoc : {A B C : Type 0} (x : Result A) (f : A → Parser B) (g : B → Parser C) (s : List ℕ) → and_then (and_then x f s) g s ≡ and_then x (λ a. ◌>>=◌ (f a) g) s

@@ -1,8 +1,8 @@
 // The items of a table in bytes, read from left to right: a number, a phase, a task, and the loops over phases and tasks, which put what they read into a
-// table. Each goes on from a place of the bytes, and answers the place behind what it read, or why and where they are turned away.
+// table. Each goes on from where the one before it stopped, or answers why and where the table is turned away.
 ghost use Rattle.std.specs.Prelude.{◌≡◌, ◌-◌, ◌≤◌, ◌<◌, IfOk};
 ghost use Rattle.table.specs.Parse.{each, number_in, phase, task};
-ghost use Rattle.table.specs.Steps.{all_tasks, away_for, number_of, read_to};
+ghost use Rattle.table.specs.Steps.{Reads, all_tasks, away_for, number_of, up_to, with_read};
 
 use crate::{Reason, Table, TurnedAway};
 use groups::{Number, NumberError};
@@ -23,7 +23,7 @@ fn no_number(bytes: &[u8], at: usize, error: NumberError) -> TurnedAway
     }
 }
 
-// The number from `least` to `most` that is due at `at`. (Inlined: as a call for each number it costs half of the reading time more.)
+// The number from `least` to `most` that is due at `at`.
 #[inline]
 fn number(bytes: &[u8], at: usize, least: u64, most: u64) -> Result<Number, TurnedAway>
     ensures is { result ≡ number_of (number_in least most bytes.now at) }
@@ -43,71 +43,73 @@ fn number(bytes: &[u8], at: usize, least: u64, most: u64) -> Result<Number, Turn
     Ok(number)
 }
 
-// A phase, put at place k of the table.
-fn phase(bytes: &[u8], at: usize, k: usize, table: &mut Table) -> Result<usize, TurnedAway>
-    requires { k < 256 }
-    ensures { phase k table.old bytes.now at ≡ read_to result table.new }
-{
-    let work = number(bytes, at, Table::WORK_LEAST, Table::WORK_MOST)?;
-    let cost = number(bytes, work.next, Table::COST_LEAST, Table::COST_MOST)?;
-    table.work[k] = work.value as u32;
-    table.cost[k] = cost.value as u32;
-    Ok(cost.next)
-}
-
-// Phases, put at the places of the table from `first` up to `last`.
-fn phases(
-    bytes: &[u8],
+// The bytes of a table, and the place that reading has come to.
+#[derive(Drop)]
+struct Reader<'a> {
+    bytes: &'a [u8],
     at: usize,
-    first: usize,
-    last: usize,
-    table: &mut Table,
-) -> Result<usize, TurnedAway>
-    requires { last ≤ 256 }
-    ensures { each phase (last - first) first table.old bytes.now at ≡ read_to result table.new }
-{
-    let mut next = at;
-    for k in first..last {
-        next = phase(bytes, next, k, table)?;
+}
+
+impl Reader<'_> {
+    // The next number, from `least` to `most`. (Inlined, and what it calls too: a call for each number takes half as much time again.)
+    #[inline(always)]
+    fn number(&mut self, least: u64, most: u64) -> Result<u64, TurnedAway>
+        ensures reads { Reads (number_in least most) self.old self.new result }
+        ensures high { IfOk result (λ v. v ≤ most) }
+    {
+        let number = number(self.bytes, self.at, least, most)?;
+        self.at = number.next;
+        Ok(number.value)
     }
-    Ok(next)
+
+    // The next phase, put at place k of the table.
+    fn phase(&mut self, k: usize, table: &mut Table) -> Result<(), TurnedAway>
+        requires { k < 256 }
+        ensures { Reads (phase k table.old) self.old self.new (with_read table.new result) }
+    {
+        let work = self.number(Table::WORK_LEAST, Table::WORK_MOST)?;
+        let cost = self.number(Table::COST_LEAST, Table::COST_MOST)?;
+        table.work[k] = work as u32;
+        table.cost[k] = cost as u32;
+        Ok(())
+    }
+
+    // The next phases, put at the places of the table from `first` up to `last`.
+    fn phases(&mut self, first: usize, last: usize, table: &mut Table) -> Result<(), TurnedAway>
+        requires { last ≤ 256 }
+        ensures { Reads (each phase (last - first) first table.old) self.old self.new (with_read table.new result) }
+    {
+        for k in first..last {
+            self.phase(k, table)?;
+        }
+        Ok(())
+    }
+
+    // The next task, put into the table as task i: T, D, the number of phases, and the phases.
+    fn task(&mut self, i: usize, table: &mut Table) -> Result<(), TurnedAway>
+        requires { i < 32 }
+        ensures { Reads (task i table.old) self.old self.new (with_read table.new result) }
+    {
+        let spacing = self.number(Table::SPACING_LEAST, Table::SPACING_MOST)?;
+        let deadline = self.number(Table::DEADLINE_LEAST, spacing)?;
+        let count = self.number(Table::PHASES_LEAST, Table::PHASES_MOST)?;
+        table.spacing[i] = spacing as u32;
+        table.deadline[i] = deadline as u32;
+        table.phases[i] = count as u32;
+        let first = 8 * i;
+        self.phases(first, first + count as usize, table)
+    }
 }
 
-// Task i, put into the table: T, D, the number of phases, and the phases.
-fn task(bytes: &[u8], at: usize, i: usize, table: &mut Table) -> Result<usize, TurnedAway>
-    requires { i < 32 }
-    ensures { task i table.old bytes.now at ≡ read_to result table.new }
-{
-    let spacing = number(bytes, at, Table::SPACING_LEAST, Table::SPACING_MOST)?;
-    let deadline = number(bytes, spacing.next, Table::DEADLINE_LEAST, spacing.value)?;
-    let count = number(
-        bytes,
-        deadline.next,
-        Table::PHASES_LEAST,
-        Table::PHASES_MOST,
-    )?;
-    table.spacing[i] = spacing.value as u32;
-    table.deadline[i] = deadline.value as u32;
-    table.phases[i] = count.value as u32;
-    let first = 8 * i;
-    phases(
-        bytes,
-        count.next,
-        first,
-        first + count.value as usize,
-        table,
-    )
-}
-
-// The number of tasks and the tasks, put into the table.
+// The number of tasks and the tasks, put into the table: the place behind them.
 pub fn tasks(bytes: &[u8], table: &mut Table) -> Result<usize, TurnedAway>
-    ensures { all_tasks table.old bytes.now 0 ≡ read_to result table.new }
+    ensures { all_tasks table.old bytes.now 0 ≡ up_to table.new result }
 {
-    let count = number(bytes, 0, Table::TASKS_LEAST, Table::TASKS_MOST)?;
-    table.tasks = count.value as usize;
-    let mut next = count.next;
+    let mut reader = Reader { bytes, at: 0 };
+    let count = reader.number(Table::TASKS_LEAST, Table::TASKS_MOST)?;
+    table.tasks = count as usize;
     for i in 0..table.tasks {
-        next = task(bytes, next, i, table)?;
+        reader.task(i, table)?;
     }
-    Ok(next)
+    Ok(reader.at)
 }
