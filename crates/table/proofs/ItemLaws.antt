@@ -3,7 +3,6 @@ use Prim.Native.Nat.{ℕ, ◌+◌, ◌-◌, ◌*◌, ◌≤◌, ◌<◌}
 use mathlib.Core.Path.{◌≡◌, refl, ap, sym, ◌∙◌}
 use mathlib.Core.List.{List, [], ◌∷◌}
 use mathlib.Core.Bool.{Bool, true, false}
-use native.Mathlib.Omega.{arith}
 use native.Mathlib.Nat.{add-sub_cancel_left, sub-zero}
 use lib.Dec.{ltb}
 use lib.ListN.{length}
@@ -46,7 +45,7 @@ module _ (least most : ℕ) {s : List ℕ} {at : ℕ} {read : std.Result Number 
   none {a} e = by read d.told ∙ ap (λ (r : std.Result Number NumberError). number_of (tested least most r s at)) d.is
     where
       by : (r : std.Result Number NumberError) → MatchResult r (λ n. found ≡ std.Ok n) (λ x. IsErrAnd found (λ b. b ≡ away_for s at x)) → found ≡ number_of (tested least most r s at)
-      by (std.Ok n) told = let z : ◌≡◌ {A = ℕ} 0 1 = cc in absurd (omega arith)
+      by (std.Ok n) told = cc
       by (std.Err Ends) told = passed_on found told
       by (std.Err Malformed) told = passed_on found told
 
@@ -56,7 +55,7 @@ module _ (least most : ℕ) {s : List ℕ} {at : ℕ} {read : std.Result Number 
       where
         by : (r : std.Result Number NumberError) → MatchResult r (λ n. found ≡ std.Ok n) (λ x. IsErrAnd found (λ b. b ≡ away_for s at x)) → std.Ok n ≡ r
         by (std.Ok m) told = let same : n ≡ m = cc in ap std.Ok same
-        by (std.Err x) told = let f = sym e ∙ passed_on found told in let z : ◌≡◌ {A = ℕ} 0 1 = cc in absurd (omega arith)
+        by (std.Err x) told = let f = sym e ∙ passed_on found told in cc
 
     -- one does, outside its range or inside
     pub outside : (least ≤ n.value → n.value ≤ most → ⊥) → std.Err (turned_away OutOfRange at) ≡ number_of (number_in least most s at)

@@ -18,12 +18,9 @@ pub record Bound {A B : Type 0} (x : Result A) (f : A → Parser B) (s : List �
   pub first : x ≡ got value mid
   pub second : f value s mid ≡ got b next
 
-pub never : {A : Type 0} {reason : Reason} {place next : ℕ} {a : A} → ◌≡◌ {A = Result A} (away reason place) (got a next) → ⊥
-never e = let z : ◌≡◌ {A = ℕ} 0 1 = cc in omega arith
-
 pub bound : {A B : Type 0} (x : Result A) (f : A → Parser B) (s : List ℕ) {b : B} {next : ℕ} → and_then x f s ≡ got b next → Bound x f s b next
 bound (got a mid) f s e = record { value = a; mid = mid; first = refl; second = e }
-bound (away reason place) f s e = absurd (never e)
+bound (away reason place) f s e = cc
 
 pub same_value : {A : Type 0} {a b : A} {m n : ℕ} → got a m ≡ got b n → a ≡ b
 same_value e = cc
@@ -44,9 +41,9 @@ module _ {A : Type 0} (b : Bool) (reason : Reason) (place at next : ℕ) (p : Pa
   passed e = go b e
     where
       go : (x : Bool) → and_then (if x then away reason place else got tt at) (λ (u : Unit {0}). p) s ≡ got a next → (x ≡ false) × (p s at ≡ got a next)
-      go true e = absurd (never e)
+      go true e = cc
       go false e = (refl, e)
 
 pub not_met : {A : Type 0} (b : Bool) (reason : Reason) (place at : ℕ) (u : A) {next : ℕ} {v : A} → (if b then away reason place else got u at) ≡ got v next → b ≡ false
-not_met true reason place at u e = absurd (never e)
+not_met true reason place at u e = cc
 not_met false reason place at u e = refl
