@@ -1,7 +1,7 @@
 -- WITHIN THE WALK (nobody need believe this: edf states the promise, and it is proved). The tasks' budgets, and the margins that their counts are
 -- cut to: both are settled at a task's first deadline.
 -- Assumes nothing.
-use Rattle.std.specs.Prelude.{◌≡◌, Bool, true, ℕ, ◌*◌, ◌≤◌, length, get_or, set, eqb}
+use Rattle.std.specs.Prelude.{◌≡◌, Bool, true, ℕ, ◌*◌, ◌≤◌, get_or, set, eqb}
 use Rattle.finite.specs.Finite.{Below, sum_to}
 use Rattle.std.specs.Prelude.{if◌then◌else◌}
 use Rattle.model.specs.Arrays.{Arrays, as_tasks}
@@ -48,8 +48,6 @@ where_due due f i v = if due i then f i v else v
 
 -- what is asked before the budgets of the tasks that are due at t are added up
 pub record BeforeSum (a : Arrays) (t low : ℕ) (due : ℕ → Bool) (k : Known) : Type 0 where
-  pub budget_wide : length k.budget ≡ 32
-  pub cuts_wide : length k.cuts ≡ 32
   pub bounded : Below tasks_most (λ i. due i ≡ true → get_or k.budget i 0 ≤ budget_most)
   pub roomy : Below tasks_most (λ i. due i ≡ true → get_or a.deadline i 0 ≡ t → Roomy (as_tasks a) low i)
 

@@ -58,7 +58,6 @@ pub record BeforePass (n t : ℕ) (spacing next : List ℕ) : Type 0 where
   pub some : 0 < n
   pub few : n ≤ tasks_most
   pub point : t ≤ horizon_most
-  pub wide : length next ≡ 32
   pub short : Below n (λ i. get_or spacing i 0 ≤ spacing_most)
   pub near : Below n (λ i. get_or next i 0 ≤ next_most)
 

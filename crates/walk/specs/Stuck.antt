@@ -1,6 +1,6 @@
 -- WITHIN THE WALK (nobody need believe this: edf states the promise, and it is proved). What stops the walk at a test point.
 -- Assumes nothing.
-use Rattle.std.specs.Prelude.{◌≡◌, Bool, true, false, ℕ, ◌+◌, ◌-◌, ◌≤◌, ◌<◌, Option, MatchOption, get_or}
+use Rattle.std.specs.Prelude.{◌≡◌, false, ℕ, ◌+◌, ◌-◌, ◌≤◌, ◌<◌, Option, MatchOption, get_or}
 use Rattle.finite.specs.Finite.{Below}
 use Rattle.model.specs.Arrays.{Arrays, as_tasks}
 use Rattle.model.specs.Ranges.{phases_most, tasks_most}
@@ -16,10 +16,6 @@ pub record IsFirst (n : ℕ) (P : ℕ → Type 0) (r : ℕ) : Type 0 where
 -- the first index below n at which P holds, if there is one
 abbrev pub FirstWhere : ℕ → (ℕ → Type 0) → Option ℕ → Type 0
 FirstWhere n P found = MatchOption found (Below n (λ k. P k → ⊥)) (IsFirst n P)
-
--- the first index below n at which a test fails, if there is one
-abbrev pub FirstFailing : ℕ → (ℕ → Bool) → Option ℕ → Type 0
-FirstFailing n test found = MatchOption found (Below n (λ k. test k ≡ true)) (λ r. (r < n) × (test r ≡ false) × Below r (λ k. test k ≡ true))
 
 -- phase j of task i is stuck at t: the task blocks there, and the margin leaves the phase no room
 abbrev pub Stuck : Arrays → ℕ → ℕ → ℕ → ℕ → Type 0

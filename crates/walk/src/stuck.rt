@@ -1,10 +1,10 @@
 // Whether the walk stops at a test point: the demand is above it, or a phase that blocks there has no room in the margin.
-ghost use Rattle.std.specs.Prelude.{◌≤◌, ◌<◌, get_or};
+ghost use Rattle.std.specs.Prelude.{false, ◌≡◌, ◌≤◌, ◌<◌, get_or};
 ghost use Rattle.finite.specs.Finite.{Below};
 ghost use Rattle.model.specs.Ranges.{phases_most, tasks_most};
 ghost use Rattle.model.specs.Phase.{phases_of};
 ghost use Rattle.table.specs.TaskModel.{arrays_of, tasks_of};
-ghost use Rattle.walk.specs.Stuck.{BeforeStop, FirstFailing, FirstWhere, PointJudged, Stuck};
+ghost use Rattle.walk.specs.Stuck.{BeforeStop, FirstWhere, PointJudged, Stuck};
 
 use pieces::task::room_at;
 use table::Table;
@@ -12,7 +12,7 @@ use table::Table;
 // The first phase of task i that has no room in the margin.
 fn lacking(table: &Table, i: usize, margin: u64) -> Option<usize>
     requires { (i < tasks_most) × (get_or table.now.phases i 0 ≤ phases_most) }
-    ensures { FirstFailing (get_or table.now.phases i 0) (λ j. (phases_of (tasks_of table.now)).room i j margin) result }
+    ensures { FirstWhere (get_or table.now.phases i 0) (λ j. (phases_of (tasks_of table.now)).room i j margin ≡ false) result }
 {
     for j in 0..table.phases[i] as usize {
         if !room_at(table, i, j, margin) {

@@ -203,15 +203,15 @@ module _ {a : Arrays} {t low mask : ℕ} {k : Known} {rest : ℕ} {k' : Known} {
           omega (arith, added_at_most so.ready (is_added_of mask rest) so.so_far)
 
       -- it is added up
-      pub adding_more : {others : ℕ} → OthersOf rest others → AddingUp a t low mask k others k'' (added + b)
-      adding_more {others} o =
+      pub adding_more : length k'.budget ≡ 32 → length k'.cuts ≡ 32 → {others : ℕ} → OthersOf rest others → AddingUp a t low mask k others k'' (added + b)
+      adding_more budget_long cuts_long {others} o =
           let put : BitPut first false rest others = rw f.is o.without in
           record {
             ready = so.ready;
             within = λ i m. still put i m (ℕ_discrete i first);
             so_far =
                 added_more so.so_far (is_added_more mask due f.marked put) f.place
-                (omega (arith, f.place, so.ready.budget_wide, so.so_far.budget.same)) (omega (arith, f.place, so.ready.cuts_wide, so.so_far.cuts.same)) e;
+                (omega (arith, f.place, budget_long)) (omega (arith, f.place, cuts_long)) e;
           }
         where
           still : BitPut first false rest others → (i : ℕ) → bit others i ≡ true → Dec (i ≡ first) → bit mask i ≡ true

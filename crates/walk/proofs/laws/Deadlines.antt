@@ -38,6 +38,24 @@ mapped_more i v f xs ys l m e =
 
 -- ---- the least
 
+pub earliest_one : (xs : List ℕ) → Earliest 1 xs (get_or xs 0 0)
+earliest_one xs =
+    record {
+      below = λ i l. let z : i ≡ 0 = omega arith in rw z (omega arith);
+      met = (0, omega arith, refl);
+    }
+
+pub earliest_more : {i t r : ℕ} {xs : List ℕ} → Earliest i xs t → r ≡ min t (get_or xs i 0) → Earliest (i + 1) xs r
+earliest_more {i} {t} {r} {xs} m e =
+    record {
+      below = below_more (λ k. r ≤ get_or xs k 0) i (λ k l. omega (arith, m.below k l)) (omega arith);
+      met =
+          ⊎_elim (λ l. (m.met.0, omega (arith, m.met.1), m.met.2 ∙ sym (e ∙ min-eq_left l))) (λ l. (i, omega arith, omega arith)) (le_or_lt t (get_or xs i 0));
+    }
+
+pub earliest_all : {i n t : ℕ} {xs : List ℕ} → Earliest i xs t → i ≡ n → Earliest n xs t
+earliest_all m e = rw e at m
+
 -- the least of a leading run of n numbers
 pub earliest_front : {n t : ℕ} {xs : List ℕ} → n ≤ length xs → Earliest (length (take n xs)) (take n xs) t → Earliest n xs t
 earliest_front {n} {t} {xs} le m =
@@ -114,10 +132,10 @@ module _ {n t : ℕ} {spacing next : List ℕ} {i : ℕ} {next' : List ℕ} {pas
   moving_near l = (omega (arith, k.ready.few), k.ready.point, k.small)
 
   -- task i is passed
-  pub moving_more : i < n → {next'' : List ℕ} {passed' : Moved} → MovesOn i t (get_or spacing i 0) next' next'' passed passed' → MovingOn n t spacing next (i + 1) next'' passed'
-  moving_more l {next''} {passed'} m =
+  pub moving_more : length next' ≡ 32 → i < n → {next'' : List ℕ} {passed' : Moved} → MovesOn i t (get_or spacing i 0) next' next'' passed passed' → MovingOn n t spacing next (i + 1) next'' passed'
+  moving_more long l {next''} {passed'} m =
       let later : ℕ = next_at spacing t i (get_or next' i 0) in
-      let wide : i < length next' = omega (arith, k.ready.few, k.ready.wide, k.each.same) in
+      let wide : i < length next' = omega (arith, k.ready.few, long) in
       record {
         ready = k.ready;
         so_far = omega arith;

@@ -45,7 +45,7 @@ module _ {n t : ℕ} {next : List ℕ} {mask : ℕ} (d : DueAt n t next mask) wh
 module _ {a : Arrays} {t low : ℕ} {k : Known} (r : BeforePoint a t low k) where
   -- what its two calls ask
   pub before_pass : BeforePass a.tasks t a.spacing k.next
-  before_pass = record { some = r.some; few = r.few; point = r.point; wide = r.next_wide; short = r.spacing; near = r.near }
+  before_pass = record { some = r.some; few = r.few; point = r.point; short = r.spacing; near = r.near }
 
   module _ {next' : List ℕ} {moved : Moved} (p : PointPassed a.tasks t a.spacing k.next next' moved) where
     -- what is known once the point is passed
@@ -55,8 +55,6 @@ module _ {a : Arrays} {t low : ℕ} {k : Known} (r : BeforePoint a t low k) wher
     pub before_sum : BeforeSum a t low (bit moved.due) passed
     before_sum =
         record {
-          budget_wide = r.budget_wide;
-          cuts_wide = r.cuts_wide;
           bounded = λ i l e. r.budgets i (due_below p.due i e);
           roomy = λ i l e. r.phases i (due_below p.due i e);
         }

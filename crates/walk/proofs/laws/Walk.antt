@@ -1,6 +1,6 @@
 -- What holds in each state that the walk reaches, so that nothing wraps.
 -- Assumes nothing.
-use Rattle.std.specs.Prelude.{◌≡◌, refl, true, ℕ, ◌-◌, ◌≤◌, ◌<◌, length, get_or}
+use Rattle.std.specs.Prelude.{◌≡◌, refl, true, ℕ, ◌-◌, ◌≤◌, ◌<◌, get_or}
 use Rattle.std.proofs.Common.{◌∙◌, ⊎_elim, le_refl, le_trans, arith}
 use Rattle.std.proofs.Math.Nat.{min-eq_left, min-eq_right}
 use Rattle.std.proofs.lemmas.List.{get_or-replicate}
@@ -34,9 +34,6 @@ need_falls S P laws i j l k low high room le =
 -- ---- states
 
 pub record Bounded (a : Arrays) (h : ℕ) (s : WalkState) : Type 0 where
-  pub next_wide : length s.known.next ≡ 32
-  pub budget_wide : length s.known.budget ≡ 32
-  pub cuts_wide : length s.known.cuts ≡ 32
   pub demand : s.demand ≤ s.last
   pub points : s.points ≤ s.last
   pub last : s.last ≤ h
@@ -70,9 +67,6 @@ module _ (a : Arrays) (h : ℕ) (lim : Walkable a h) where
   bounded_start : Bounded a h (start_of a)
   bounded_start =
       record {
-        next_wide = lim.sized.deadline;
-        budget_wide = refl;
-        cuts_wide = refl;
         demand = omega arith;
         points = omega arith;
         last = omega arith;
@@ -89,9 +83,6 @@ module _ (a : Arrays) (h : ℕ) (lim : Walkable a h) where
       let dl = st.taken.deadlines.each in
       let bg = st.taken.budgets in
       record {
-        next_wide = dl.same ∙ bd.next_wide;
-        budget_wide = bg.budget.same ∙ bd.budget_wide;
-        cuts_wide = bg.cuts.same ∙ bd.cuts_wide;
         demand = omega (arith, go.fits, st.last);
         points = omega (arith, st.points, st.last, bd.points);
         last = omega (arith, st.last, st.within);
@@ -159,9 +150,6 @@ module _ (a : Arrays) (h : ℕ) (lim : Walkable a h) where
           some = lim.some_task;
           few = few_tasks a h lim;
           point = omega (arith, lim.horizon);
-          next_wide = bd.next_wide;
-          budget_wide = bd.budget_wide;
-          cuts_wide = bd.cuts_wide;
           spacing = λ i l. (task_in a h lim i l).spacing_at_most;
           near = bd.near;
           budgets = bd.budgets;

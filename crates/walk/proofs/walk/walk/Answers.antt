@@ -1,5 +1,5 @@
 use native.Mathlib.Omega.{arith}
-use Rattle.walk.proofs.laws.Ends.{standing_accepts, standing_later, standing_more, standing_ready, standing_refuses, standing_small, standing_start, standing_stop}
+use Rattle.walk.proofs.laws.Ends.{standing_more, standing_ready, standing_refuses, standing_small, standing_start, standing_stop}
 use Rattle.walk.proofs.walk.walk.Goals as goal
 
 pub loop-t-init : goal.loop-t-init
@@ -20,14 +20,5 @@ judge_point-requires c = standing_stop c.loop-t.invariant _
 pub returns-in-Some : goal.returns-in-Some
 returns-in-Some c = standing_refuses c.loop-t.invariant (omega (arith, c.loop-t-test.true)) c.take_point-taken.ensures c.in-Some.ensures
 
-pub overflow_sub-t : goal.overflow_sub-t
-overflow_sub-t c = omega (arith, c.in_default.ensures.fits)
-
-pub loop-t-smaller : goal.loop-t-smaller
-loop-t-smaller c = omega (arith, c.loop-t-test.true, standing_later c.loop-t.invariant (omega (arith, c.loop-t-test.true)) c.take_point-taken.ensures c.in_default.ensures)
-
 pub loop-t-preserved : goal.loop-t-preserved
 loop-t-preserved c = standing_more c.loop-t.invariant (omega (arith, c.loop-t-test.true)) c.take_point-taken.ensures c.in_default.ensures c.min-low.ensures
-
-pub returns : goal.returns
-returns c = standing_accepts c.loop-t.invariant (omega (arith, c.loop-t-test.false))
