@@ -17,7 +17,7 @@ pub fn all_places<const N: usize, F: Fn(usize) -> bool>(holds: F) -> bool
 {
     let mut all = true;
     for place in 0..N {
-        all = all & holds(place);
+        all &= holds(place);
     }
     all
 }

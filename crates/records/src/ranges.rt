@@ -3,7 +3,7 @@ ghost use Rattle.std.specs.Prelude.{◌≡◌, ◌<◌};
 ghost use Rattle.finite.specs.Finite.{all_to};
 ghost use Rattle.model.specs.Arrays.{phase_at};
 ghost use Rattle.model.specs.Ranges.{task_test};
-ghost use Rattle.records.specs.Lent.{changing_all, in_place, job_at, numbers_at, piece_at, run_in, running_all, since_at};
+ghost use Rattle.records.specs.Lent.{changing_all, in_place, job_at, numbers_at, piece_at, running_all, since_at};
 ghost use Rattle.records.specs.Held.{held_in, held_test, tasks_in};
 
 use crate::Dispatcher;
@@ -23,17 +23,6 @@ fn count_in(used: bool, work: u32, count: u32) -> bool
     ensures { result ≡ in_place used 1 work count }
 {
     choose(used, 1 <= count, count == 0) & (count <= work)
-}
-
-// The running task and the ticks left of its piece, by what the piece has; 0 and 0 where none runs.
-fn run_in(run: u32, tasks: u32, unfinished: bool, ticks: u64, most: u64) -> bool
-    ensures { result ≡ run_in run tasks unfinished ticks most }
-{
-    choose(
-        run == 0,
-        ticks == 0,
-        (run <= tasks) & unfinished & ((1 <= ticks) & (ticks <= most)),
-    )
 }
 
 impl Dispatcher {
@@ -122,12 +111,16 @@ impl Dispatcher {
 
     // ---- the running piece
 
-    // The running task and the ticks left of its piece.
+    // The running task and the ticks left of its piece; 0 and 0 where none runs.
     pub(crate) fn running_in(&self) -> bool
         ensures { result ≡ running_all self.now }
     {
-        let flag = at(&self.unfinished, from_one(self.running));
+        let unfinished = at(&self.unfinished, from_one(self.running)) == 1;
         let most = self.due_ticks(self.running);
-        run_in(self.running, self.tasks, flag == 1, self.ticks, most)
+        choose(
+            self.running == 0,
+            self.ticks == 0,
+            (self.running <= self.tasks) & unfinished & ((1 <= self.ticks) & (self.ticks <= most)),
+        )
     }
 }

@@ -125,13 +125,9 @@ module _ (d : Dispatcher) (long : Long d) where
     due_alike : Below 32 (ChangingP d) → ¬ (s.run ≡ 0) → s.run ≤ S.n → s.busy (s.run - 1) ≡ true →
         ticks_of d s.run ≡ stated S x (s.run - 1) (s.phase (s.run - 1)) (s.piece (s.run - 1))
     due_alike now h l b =
-        let e : s.run ≡ suc (s.run - 1) = go s.run h in
+        let e : s.run ≡ suc (s.run - 1) = omega arith in
         let j = ((now (s.run - 1) (omega (arith, t.tasks))).0 (omega arith)).2.0 b in
         ap (ticks_of d) e ∙ due_of_views d (s.run - 1) (omega (arith, j.1.0, j.1.1, (few_of S t).phases (s.run - 1)))
-      where
-        go : (r : ℕ) → ¬ (r ≡ 0) → r ≡ suc (r - 1)
-        go zero n = absurd (n refl)
-        go (suc r) n = omega arith
 
     run_is : Below 32 (ChangingP d) → run_in s.run S.n (s.busy (s.run - 1)) s.ticks (ticks_of d s.run) ≡ run_test S x s
     run_is now = run_alike s.run S.n (s.busy (s.run - 1)) s.ticks (ticks_of d s.run) _ (due_alike now)
