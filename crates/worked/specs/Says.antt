@@ -8,10 +8,11 @@ use Rattle.model.specs.TestPoints.{horizon_of}
 use Rattle.model.specs.Walk.{verdict}
 use Rattle.table.specs.declared.Table.{Table}
 use Rattle.table.specs.Parse.{Result, got, away, table}
+use Rattle.table.specs.Reason.{reason_number}
 use Rattle.table.specs.TaskModel.{tasks_of}
 use Rattle.groups.specs.Encode.{encode_all}
 
--- the bytes of an answer, or a reason and a place
+-- the bytes of an answer, or a reason's number and a place
 pub data Saying : Type 0 where
   writes : List ℕ → Saying
   turns_away : ℕ → ℕ → Saying
@@ -22,7 +23,7 @@ says_of S = writes (encode_all (answer S (phases_of S) (horizon_of S) (verdict S
 
 abbrev pub says_in : Result Table → Saying
 says_in (got t next) = says_of (tasks_of t)
-says_in (away reason place) = turns_away reason place
+says_in (away reason place) = turns_away (reason_number reason) place
 
 -- what is said to bytes, where the buffer has room
 unfoldable pub says : List ℕ → Saying
