@@ -12,10 +12,9 @@ use Rattle.std.proofs.lemmas.List.{get_or-take}
 use lib.Dec.{eqb}
 use borrow.Author.Tests.{eq-eqb, ne_eqb}
 use Rattle.finite.specs.Finite.{Below, sum_to}
-use Rattle.finite.proofs.laws.Tests.{cond_true, cond_false, eqb_decides, failed}
 use Rattle.model.specs.TestPoints.{gcd, gcd_in, lcm, lcm_to}
 use Rattle.model.proofs.laws.Lcm.{Multiple, gcd_ok, lcm_ok, lcm_to_ok}
-use Rattle.std.proofs.lemmas.Bool.{cond_below, cond_above}
+use Rattle.std.proofs.lemmas.Bool.{cond_below, cond_above, cond-false, cond-true, eqb-false}
 use Rattle.std.proofs.lemmas.Bool.Decides.{nat_tests}
 use Rattle.std.specs.Prelude.{Some, None}
 use Rattle.table.specs.Horizon.{none_above, Spacings}
@@ -31,18 +30,18 @@ enough : (f g a b : ℕ) → b < f → b < g → gcd_in f a b ≡ gcd_in g a b
 unfolding gcd_in
 enough zero g a b l m = absurd (not-suc-le-zero l)
 enough (suc f) zero a b l m = absurd (not-suc-le-zero m)
-enough (suc f) (suc g) a b l m = same_else (eqb b 0) a (λ e. go (enough f g b (a % b)) (pos_of_ne-zero (failed (eqb_decides b 0) e)))
+enough (suc f) (suc g) a b l m = same_else (eqb b 0) a (λ e. go (enough f g b (a % b)) (pos_of_ne-zero (eqb-false b 0 e)))
   where
     go : (a % b < f → a % b < g → gcd_in f b (a % b) ≡ gcd_in g b (a % b)) → 0 < b → gcd_in f b (a % b) ≡ gcd_in g b (a % b)
     go ih pos = let less = mod-lt a pos in ih (omega arith) (omega arith)
 
 pub gcd_zero : (a b : ℕ) → b ≡ 0 → gcd a b ≡ a
 unfolding gcd gcd_in
-gcd_zero a b e = cond_true (eqb b 0) a _ (eq-eqb b 0 e)
+gcd_zero a b e = cond-true (eqb b 0) a _ (eq-eqb b 0 e)
 
 pub gcd_step : (a b : ℕ) → (b ≡ 0 → ⊥) → gcd a b ≡ gcd b (a % b)
 unfolding gcd gcd_in
-gcd_step a b some = cond_false (eqb b 0) a _ (ne_eqb b 0 some) ∙ enough b (suc (a % b)) b (a % b) (mod-lt a (pos_of_ne-zero some)) (lt-suc_self (a % b))
+gcd_step a b some = cond-false (eqb b 0) a _ (ne_eqb b 0 some) ∙ enough b (suc (a % b)) b (a % b) (mod-lt a (pos_of_ne-zero some)) (lt-suc_self (a % b))
 
 gcd_positive : (a b : ℕ) → 0 < b → 0 < gcd a b
 gcd_positive a b pos = let (k, e) = (gcd_ok a b).of_right in go (gcd a b) k e
