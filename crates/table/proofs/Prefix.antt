@@ -156,7 +156,7 @@ module _ (size : ℕ) (s r : List ℕ) (pre : Prefix size s r) where
       let least = range.least in
       let most = range.most in
       let far = at + number_long * length (range ∷ ranges) in
-      let (this, others) = and_both (ltb most (128 ^ number_long)) (short ranges) ok in
+      let (this, others) = and_parts (ltb most (128 ^ number_long)) (short ranges) ok in
       let small = ltb-true most (128 ^ number_long) this in
       then_alike (number_in least most s at) (number_in least most r at) _ (at + number_long) far (number_alike 3 least most at small (omega arith))
       (λ n a e l. then_alike (numbers_in ranges s a) (numbers_in ranges r a) _ (a + number_long * length ranges) far (in_order_alike ranges others a (omega arith))

@@ -11,7 +11,8 @@ use lib.Dec.{ltb}
 use lib.ListN.{length, get_or}
 use Rattle.model.specs.Ranges.{phases_most, tasks_most}
 use Rattle.finite.specs.Finite.{any_to}
-use Rattle.finite.proofs.laws.Tests.{failed, le_or_lt, ltb_decides}
+use Rattle.finite.proofs.laws.Tests.{le_or_lt}
+use Rattle.std.proofs.lemmas.Bool.Decides.{Decides-ltb, not_from_Decides}
 use Rattle.finite.proofs.laws.Searches.{any_decides}
 use Rattle.groups.specs.Sinks.{Counts, Countable, RoomFor, Fills}
 use Rattle.groups.proofs.Numbers.{eight_each, join_count}
@@ -33,7 +34,7 @@ few t e i h = go (le_or_lt (get_or t.phases i 0) phases_most)
     go (inl l) = l
     go (inr l) =
         absurd
-        (failed (any_decides t.tasks (λ j. ltb phases_most (get_or t.phases j 0)) (λ j. phases_most < get_or t.phases j 0) (λ j _. ltb_decides phases_most (get_or t.phases j 0))) e (i, h, l))
+        (not_from_Decides _ (any_decides t.tasks (λ j. ltb phases_most (get_or t.phases j 0)) (λ j. phases_most < get_or t.phases j 0) (λ j _. Decides-ltb phases_most (get_or t.phases j 0))) e (i, h, l))
 
 -- a table that its arrays hold
 pub record InArrays (t : Table) : Type 0 where

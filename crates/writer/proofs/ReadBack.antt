@@ -9,7 +9,8 @@ use lib.Dec.{ltb}
 use lib.ListN.{length, get_or, take, drop}
 use lib.Seq.{take_at}
 use Rattle.model.specs.Ranges.{phases_most, tasks_most}
-use Rattle.finite.proofs.laws.Tests.{fails, ltb_decides}
+use Rattle.finite.proofs.laws.Tests.{fails}
+use Rattle.std.proofs.lemmas.Bool.Decides.{Decides-ltb}
 use Rattle.finite.proofs.laws.Searches.{any_decides}
 use Rattle.std.specs.Prelude.{if◌then◌else◌, Result, Ok, Err}
 use Rattle.table.specs.declared.Table.{Table}
@@ -23,7 +24,7 @@ use Rattle.writer.proofs.RoundTrip.{table_round_trip}
 
 no_long_task : (t : Table) → Valid t → long_task t ≡ false
 no_long_task t v =
-    fails (any_decides t.tasks (λ i. ltb phases_most (get_or t.phases i 0)) (λ i. phases_most < get_or t.phases i 0) (λ i _. ltb_decides phases_most (get_or t.phases i 0)))
+    fails (any_decides t.tasks (λ i. ltb phases_most (get_or t.phases i 0)) (λ i. phases_most < get_or t.phases i 0) (λ i _. Decides-ltb phases_most (get_or t.phases i 0)))
     (λ h. omega (arith, h.2, (v.in_range.items.task h.0 h.1).phases_at_most))
 
 pub not_overfull : (t : Table) → Valid t → overfull t ≡ false

@@ -7,7 +7,7 @@ use Rattle.std.proofs.Math.Bool.{true, false}
 use Rattle.finite.specs.Masks.{bit, digit, mask_of}
 use Rattle.finite.proofs.laws.Masks.{bit_mask_of}
 use Rattle.finite.proofs.laws.Lists.{filled_more}
-use Rattle.finite.proofs.laws.Tests.{cond_false, cond_true}
+use Rattle.std.proofs.lemmas.Bool.{cond-false, cond-true}
 use Rattle.promise.specs.Rules.{State, admit, lets_in}
 use Rattle.records.specs.Record.{state_in}
 use Rattle.records.specs.Rules.{enters_of}
@@ -44,11 +44,11 @@ module _ (d : Dispatcher) (asked m i : ℕ) (scan : m ≡ mask_of 32 (lets_in (t
       let b : enters ≡ true = enters_is true h in
       ap (λ (r : Dispatcher). with_jobs r (set r.since i 0) (set r.unfinished i 1) (set r.left i (get_or r.deadline i 0)) (set r.phase i 1) (set r.piece i 1) r.running r.ticks) e ∙
       jobs_alike d
-      (filled_more i _ _ _ 0 refl (sym (cond_true enters 0 _ b)))
+      (filled_more i _ _ _ 0 refl (sym (cond-true enters 0 _ b)))
       (filled_more i _ _ _ 1 refl (ap (λ (c : Bool). digit (c || (state_in d).busy i)) (sym b)))
-      (filled_more i _ _ _ _ refl (sym (cond_true enters (get_or d.deadline i 0) _ b)))
-      (filled_more i _ _ _ 1 refl (sym (cond_true enters 1 _ b)))
-      (filled_more i _ _ _ 1 refl (sym (cond_true enters 1 _ b)))
+      (filled_more i _ _ _ _ refl (sym (cond-true enters (get_or d.deadline i 0) _ b)))
+      (filled_more i _ _ _ 1 refl (sym (cond-true enters 1 _ b)))
+      (filled_more i _ _ _ 1 refl (sym (cond-true enters 1 _ b)))
       refl refl
 
   -- a turn in which none does: what a state says of a task not let in is what the record has
@@ -58,11 +58,11 @@ module _ (d : Dispatcher) (asked m i : ℕ) (scan : m ≡ mask_of 32 (lets_in (t
       let b : enters ≡ false = enters_is false h in
       e ∙
       jobs_alike d
-      (filled_kept i _ _ (sym (cond_false enters 0 _ b)))
+      (filled_kept i _ _ (sym (cond-false enters 0 _ b)))
       (filled_kept i _ _ (own_flag d long f i l ∙ ap (λ (c : Bool). digit (c || (state_in d).busy i)) (sym b)))
-      (filled_kept i _ _ (sym (cond_false enters (get_or d.deadline i 0) _ b)))
-      (filled_kept i _ _ (sym (cond_false enters 1 _ b)))
-      (filled_kept i _ _ (sym (cond_false enters 1 _ b)))
+      (filled_kept i _ _ (sym (cond-false enters (get_or d.deadline i 0) _ b)))
+      (filled_kept i _ _ (sym (cond-false enters 1 _ b)))
+      (filled_kept i _ _ (sym (cond-false enters 1 _ b)))
       refl refl
 
 -- the whole step

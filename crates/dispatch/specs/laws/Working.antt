@@ -11,7 +11,7 @@ use Rattle.std.proofs.Math.Dec.{eqb, ltb, eqb-suc-zero}
 use Rattle.finite.specs.Masks.{digit}
 use Rattle.finite.specs.Finite.{list_to}
 use Rattle.finite.proofs.laws.Lists.{get_or_list, length_list}
-use Rattle.finite.proofs.laws.Tests.{and_both, cond_false, cond_true}
+use Rattle.std.proofs.lemmas.Bool.{and_parts, cond-false, cond-true}
 use Rattle.model.specs.Phase.{Choice}
 use Rattle.model.specs.Tasks.{Tasks}
 use Rattle.model.proofs.laws.Arrays.{phase_at_lem}
@@ -186,7 +186,7 @@ module _ {d : Dispatcher} {flag : Bool} {due : Due} {ran : Ran} {i : ℕ} (found
   ends_runs e z = true≢false (sym e ∙ ap (λ r. not (eqb r 0) && used_up d flag) z)
 
   ends_used : ends_now d flag ≡ true → used_up d flag ≡ true
-  ends_used e = (and_both (not (eqb d.running 0)) (used_up d flag) e).1
+  ends_used e = (and_parts (not (eqb d.running 0)) (used_up d flag) e).1
 
   on_used : ends_now d flag ≡ false → (d.running ≡ 0 → ⊥) → used_up d flag ≡ false
   on_used e n = sym (ap (λ b. not b && used_up d flag) (ne_eqb d.running 0 n)) ∙ e
@@ -217,7 +217,7 @@ module _ {d : Dispatcher} {flag : Bool} {due : Due} {ran : Ran} {i : ℕ} (found
   pub works_on : ends_now d flag ≡ false → (d.running ≡ 0 → ⊥) → WorksOn d flag (with_run d d.running (d.ticks - 1)) ran
   unfolding outcome
   works_on u n =
-      works_to (runs_at n) on _ (cond_false (used_up d flag) _ on (on_used u n))
+      works_to (runs_at n) on _ (cond-false (used_up d flag) _ on (on_used u n))
       (ap (λ (r : Dispatcher). with_run r d.running (d.ticks - 1)) (own_state d long f))
 
   module _ (ends : ends_now d flag ≡ true) where
@@ -241,7 +241,7 @@ module _ {d : Dispatcher} {flag : Bool} {due : Due} {ran : Ran} {i : ℕ} (found
     pub works_piece : due.piece < due.pieces → WorksOn d flag (with_jobs d d.since d.unfinished d.left d.phase (set d.piece i (due.piece + 1)) 0 0) ran
     unfolding outcome
     works_piece l =
-        works_to runs next_piece _ (cond_true (used_up d flag) _ on (ends_used ends) ∙ cond_true _ next_piece _ (more_is true (lt-ltb _ _ l)))
+        works_to runs next_piece _ (cond-true (used_up d flag) _ on (ends_used ends) ∙ cond-true _ next_piece _ (more_is true (lt-ltb _ _ l)))
         (ap₂ (λ (r : Dispatcher) (w : Due). with_jobs r r.since r.unfinished r.left r.phase (set r.piece i (w.piece + 1)) 0 0) (own_state d long f) here ∙
         jobs_alike d refl refl refl refl (set_put s.piece i (s.piece i + 1) below) refl refl)
 
@@ -251,7 +251,7 @@ module _ {d : Dispatcher} {flag : Bool} {due : Due} {ran : Ran} {i : ℕ} (found
     unfolding outcome
     works_phase l k =
         works_to runs next_phase _
-        (cond_true (used_up d flag) _ on (ends_used ends) ∙ cond_false _ next_piece _ (more_is false (le-ltb _ _ l)) ∙ cond_true _ next_phase done (further_is true (lt-ltb _ _ k)))
+        (cond-true (used_up d flag) _ on (ends_used ends) ∙ cond-false _ next_piece _ (more_is false (le-ltb _ _ l)) ∙ cond-true _ next_phase done (further_is true (lt-ltb _ _ k)))
         (ap₂ (λ (r : Dispatcher) (w : Due). with_jobs r r.since r.unfinished r.left (set r.phase i (w.phase + 1)) (set r.piece i 1) 0 0) (own_state d long f) here ∙
         jobs_alike d refl refl refl (set_put s.phase i (s.phase i + 1) below) (set_put s.piece i 1 below) refl refl)
 
@@ -261,6 +261,6 @@ module _ {d : Dispatcher} {flag : Bool} {due : Due} {ran : Ran} {i : ℕ} (found
     unfolding outcome
     works_done l k =
         works_to runs done _
-        (cond_true (used_up d flag) _ on (ends_used ends) ∙ cond_false _ next_piece _ (more_is false (le-ltb _ _ l)) ∙ cond_false _ next_phase done (further_is false (le-ltb _ _ k)))
+        (cond-true (used_up d flag) _ on (ends_used ends) ∙ cond-false _ next_piece _ (more_is false (le-ltb _ _ l)) ∙ cond-false _ next_phase done (further_is false (le-ltb _ _ k)))
         (ap (λ (r : Dispatcher). with_jobs r r.since (set r.unfinished i 0) (set r.left i 0) (set r.phase i 0) (set r.piece i 0) 0 0) (own_state d long f) ∙
         jobs_alike d refl (set_false s.busy i below) (set_put s.left i 0 below) (set_put s.phase i 0 below) (set_put s.piece i 0 below) refl refl)

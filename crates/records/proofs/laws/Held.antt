@@ -4,9 +4,10 @@
 use Rattle.std.specs.Prelude.{◌≡◌, ℕ, ◌/◌, ◌%◌, ◌≤◌}
 use Rattle.std.proofs.Common.{sym, ◌∙◌, arith}
 use Rattle.finite.specs.Masks.{digit}
-use Rattle.finite.proofs.laws.Decided.{by_test, restated, under, within_decides}
+use Rattle.finite.proofs.laws.Decided.{by_test, under, within_decides}
+use Rattle.std.proofs.lemmas.Bool.Decides.{Decides-eqb, Decides-like, Decides-ltb}
+use Rattle.std.specs.Bool.{Decides}
 use Rattle.finite.proofs.laws.Lists.{length_list}
-use Rattle.finite.proofs.laws.Tests.{Decides, eqb_decides, ltb_decides}
 use Rattle.model.specs.Phase.{Choice, phases_of}
 use Rattle.model.specs.Ranges.{InTable, all_phases}
 use Rattle.model.specs.Tasks.{Tasks}
@@ -50,11 +51,11 @@ record_long h s = record {
 
 counts_decide : (d : Dispatcher) → Long d → InTable (tasks_in d) → Decides (all_phases (count_test (tasks_in d) (counts_in d))) (CountsInRange (tasks_in d) (counts_in d))
 counts_decide d long t =
-    restated
+    Decides-like _
     (λ h. record { count_least = λ i j l k. (h.0 i j l k).0; count_most = λ i j l k. (h.0 i j l k).1; no_count = h.1 })
     (λ c. (λ i j l k. (c.count_least i j l k, c.count_most i j l k), c.no_count))
     (places_decide S (few_of S t) (count_test S x) (λ i j. (1 ≤ x i j) × (x i j ≤ (phases_of S).most i j)) (λ i j. x i j ≡ 0)
-    (λ i j. by_test (ltb_decides j (S.m i)) (within_decides 1 ((phases_of S).most i j) (x i j)) (eqb_decides (x i j) 0))
+    (λ i j. by_test (Decides-ltb j (S.m i)) (within_decides 1 ((phases_of S).most i j) (x i j)) (Decides-eqb (x i j) 0))
     (λ i j h. phase_past d.counts i j long.counts h) (λ i j h. phase_none d.counts i j h))
   where
     S : Tasks
@@ -66,7 +67,7 @@ counts_decide d long t =
 pub held_decides : (d : Dispatcher) → Long d → Decides (held_test (held_in d)) (HeldInRange (held_in d))
 unfolding held_test
 held_decides d long =
-    restated
+    Decides-like _
     (λ h. record { table = h.0; counts = h.1 })
     (λ h. (h.table, h.counts))
     (under _ (table_decides (arrays_in d) long.table) (counts_decide d long))

@@ -4,8 +4,10 @@ use Rattle.std.specs.Prelude.{◌≡◌, refl, Bool, true, false, cond, ◌&&◌
 use Rattle.std.proofs.Common.{sym, ap, ◌∙◌, true≢false, arith}
 use Rattle.std.proofs.Math.Decide.{dec_lt}
 use Rattle.finite.specs.Finite.{Below}
-use Rattle.finite.proofs.laws.Decided.{both, by_test, every, restated, three, within_decides}
-use Rattle.finite.proofs.laws.Tests.{Decides, by_cases, eqb_decides, failed, leb_decides, ltb_decides}
+use Rattle.finite.proofs.laws.Decided.{by_test, every, three, within_decides}
+use Rattle.std.proofs.lemmas.Bool.Decides.{Decides-and, Decides-eqb, Decides-like, Decides-ltb, not_from_Decides}
+use Rattle.std.specs.Bool.{Decides}
+use Rattle.finite.proofs.laws.Tests.{by_cases, leb_decides}
 use Rattle.model.specs.Phase.{Choice}
 use Rattle.model.specs.Ranges.{within}
 use Rattle.model.specs.Tasks.{Tasks}
@@ -42,11 +44,11 @@ pub job_decides : (b : Bool) (D m x left phase piece : ℕ)
 job_decides b D m x left phase piece =
     by_test (itself b)
     (three (leb_decides left D) (within_decides 1 m phase) (within_decides 1 x piece))
-    (three (eqb_decides left 0) (eqb_decides phase 0) (eqb_decides piece 0))
+    (three (Decides-eqb left 0) (Decides-eqb phase 0) (Decides-eqb piece 0))
 
 pub run_decides : (run n : ℕ) (u : Bool) (ticks most : ℕ) → Decides (cond (eqb run 0) (eqb ticks 0) (leb run n && u && within 1 most ticks)) (RunP run n u ticks most)
 run_decides run n u ticks most =
-    by_test (eqb_decides run 0) (eqb_decides ticks 0)
+    by_test (Decides-eqb run 0) (Decides-eqb ticks 0)
     (three (leb_decides run n) (itself u) (within_decides 1 most ticks))
 
 module _ (d : Dispatcher) where
@@ -78,9 +80,9 @@ module _ (d : Dispatcher) where
 
   pub changing_decides : (i : ℕ) → Decides (changing_test d i) (ChangingP i)
   changing_decides i =
-      by_test (ltb_decides i S.n)
+      by_test (Decides-ltb i S.n)
       (three (leb_decides (s.since i) (S.T i)) (leb_decides (get_or d.unfinished i 0) 1) (job_decides (s.busy i) (S.D i) (S.m i) (x i (s.phase i - 1)) (s.left i) (s.phase i) (s.piece i)))
-      (both (both (both (both (eqb_decides (s.since i) 0) (eqb_decides (get_or d.unfinished i 0) 0)) (eqb_decides (s.left i) 0)) (eqb_decides (s.phase i) 0)) (eqb_decides (s.piece i) 0))
+      (Decides-and _ _ (Decides-and _ _ (Decides-and _ _ (Decides-and _ _ (Decides-eqb (s.since i) 0) (Decides-eqb (get_or d.unfinished i 0) 0)) (Decides-eqb (s.left i) 0)) (Decides-eqb (s.phase i) 0)) (Decides-eqb (s.piece i) 0))
 
   -- ---- the fields, from the tests
   module _ (long : Long d) (held : HeldInRange (held_in d)) (now : Below 32 ChangingP) (run : RunAt) where
@@ -103,13 +105,13 @@ module _ (d : Dispatcher) where
         go (yes l) = (now i (omega (arith, held.table.tasks))).0 l
         go (no l) =
             let z = absent i (omega arith) in
-            (omega (arith, z.0.0.0.0), omega (arith, z.0.0.0.1), (λ b. absurd (failed (itself (s.busy i)) (not_busy i z.0.0.0.1) b), λ b. (z.0.0.1, z.0.1, z.1)))
+            (omega (arith, z.0.0.0.0), omega (arith, z.0.0.0.1), (λ b. absurd (not_from_Decides _ (itself (s.busy i)) (not_busy i z.0.0.0.1) b), λ b. (z.0.0.1, z.0.1, z.1)))
 
     state : Range S s
     state = record {
       since = λ i. (any i).0;
       left = λ i b. ((any i).2.0 b).0;
-      idle = λ i b. let z = (any i).2.1 (failed (itself (s.busy i)) b) in record { left = z.0; phase = z.1; piece = z.2 };
+      idle = λ i b. let z = (any i).2.1 (not_from_Decides _ (itself (s.busy i)) b) in record { left = z.0; phase = z.1; piece = z.2 };
       none = λ i h. not_busy i (absent i h).0.0.0.1;
       rest = run.0;
     }
@@ -179,10 +181,10 @@ module _ (d : Dispatcher) where
   pub range_decides : Long d → Decides (in_range d) (Fields d)
   unfolding in_range
   range_decides long =
-      restated
+      Decides-like _
       (λ h. fields_from long h.0.0 h.0.1 h.1)
       (λ f. ((f.held, λ i l. now_of f i), run_of f))
-      (both (both (held_decides d long) (every 32 (changing_test d) ChangingP changing_decides))
+      (Decides-and _ _ (Decides-and _ _ (held_decides d long) (every 32 (changing_test d) ChangingP changing_decides))
       (run_decides s.run S.n (s.busy (s.run - 1)) s.ticks (stated S x (s.run - 1) (s.phase (s.run - 1)) (s.piece (s.run - 1)))))
 
 pub range_fields : (d : Dispatcher) → Long d → in_range d ≡ true → Fields d

@@ -18,9 +18,9 @@ use Rattle.records.specs.declared.Dispatcher.{Dispatcher}
 work_some : (used : Bool) (most work count : ℕ) → in_place used 1 work count ≡ true → in_place used 0 most work ≡ in_place used 1 most work
 work_some true most work count h =
     let c = (within_decides 1 work count).0 h in
-    alike _ _
-    (both (leb_decides 0 work) (leb_decides work most))
-    (restated (λ t. (omega arith, t.1)) (λ t. (omega (arith, c.0, c.1), t.1)) (both (leb_decides 1 work) (leb_decides work most)))
+    same_from_decides _ _
+    (Decides-and _ _ (leb_decides 0 work) (leb_decides work most))
+    (Decides-like _ (λ t. (omega arith, t.1)) (λ t. (omega (arith, c.0, c.1), t.1)) (Decides-and _ _ (leb_decides 1 work) (leb_decides work most)))
 work_some false most work count h = refl
 
 -- ---- every place
@@ -30,18 +30,18 @@ itself b = (λ e. e, λ e. e)
 
 pub all_both : (n : ℕ) (p q : ℕ → Bool) → all_to n (λ i. p i && q i) ≡ (all_to n p && all_to n q)
 all_both n p q =
-    alike _ _
-    (every n (λ i. p i && q i) (λ i. (p i ≡ true) × (q i ≡ true)) (λ i. both (itself (p i)) (itself (q i))))
-    (restated
+    same_from_decides _ _
+    (every n (λ i. p i && q i) (λ i. (p i ≡ true) × (q i ≡ true)) (λ i. Decides-and _ _ (itself (p i)) (itself (q i))))
+    (Decides-like _
     (λ t i l. (t.0 i l, t.1 i l))
     (λ t. (λ i l. (t i l).0, λ i l. (t i l).1))
-    (both (every n p (λ i. p i ≡ true) (λ i. itself (p i))) (every n q (λ i. q i ≡ true) (λ i. itself (q i)))))
+    (Decides-and _ _ (every n p (λ i. p i ≡ true) (λ i. itself (p i))) (every n q (λ i. q i ≡ true) (λ i. itself (q i)))))
 
 pub all_alike : (n : ℕ) (p q : ℕ → Bool) → ((i : ℕ) → i < n → p i ≡ q i) → all_to n p ≡ all_to n q
 all_alike n p q e =
-    alike _ _
+    same_from_decides _ _
     (every n p (λ i. p i ≡ true) (λ i. itself (p i)))
-    (restated (λ t i l. e i l ∙ t i l) (λ t i l. sym (e i l) ∙ t i l) (every n q (λ i. q i ≡ true) (λ i. itself (q i))))
+    (Decides-like _ (λ t i l. e i l ∙ t i l) (λ t i l. sym (e i l) ∙ t i l) (every n q (λ i. q i ≡ true) (λ i. itself (q i))))
 
 -- what matters only where the last test passes
 under_last : (b : Bool) {x y : Bool} → (b ≡ true → x ≡ y) → (x && b) ≡ (y && b)

@@ -2,7 +2,7 @@
 -- Assumes nothing.
 use Rattle.std.specs.Prelude.{◌≡◌, true}
 use Rattle.std.proofs.Common.{sym, ap, ◌∙◌, subst}
-use Rattle.finite.proofs.laws.Tests.{cond_true}
+use Rattle.std.proofs.lemmas.Bool.{cond-true}
 use Rattle.promise.specs.Rules.{State}
 use Rattle.promise.proofs.laws.Range.{Range}
 use Rattle.promise.proofs.laws.Remaining.{Proper}
@@ -37,4 +37,4 @@ module _ (h : Held) (held : HeldInRange h) (s : State) (range : Range h.table s)
       })
 
   pub usable_is : Proper h.table h.counts s → usable d ≡ d
-  usable_is good = cond_true (in_range d) d empty_record (record_in_range good)
+  usable_is good = cond-true (in_range d) d empty_record (record_in_range good)

@@ -7,8 +7,11 @@ use Rattle.std.proofs.Math.Bool.{Bool, true}
 use Rattle.std.proofs.Math.Decide.{dec_lt}
 use Rattle.records.specs.Rules.{ticks_of}
 use Rattle.finite.specs.Finite.{Below, all_to}
-use Rattle.finite.proofs.laws.Decided.{alike, both, by_test, every, restated, three, within_decides}
-use Rattle.finite.proofs.laws.Tests.{Decides, and_both, by_cases, eqb_decides, failed, leb_decides}
+use Rattle.finite.proofs.laws.Decided.{by_test, every, three, within_decides}
+use Rattle.std.proofs.lemmas.Bool.{and_parts}
+use Rattle.std.proofs.lemmas.Bool.Decides.{Decides-and, Decides-eqb, Decides-like, not_from_Decides, same_from_decides}
+use Rattle.std.specs.Bool.{Decides}
+use Rattle.finite.proofs.laws.Tests.{by_cases, leb_decides}
 use Rattle.model.specs.Phase.{Choice}
 use Rattle.model.specs.Ranges.{InTable}
 use Rattle.model.specs.Tasks.{Tasks}
@@ -33,9 +36,9 @@ and_where false e = refl
 -- a running piece, where two ways to find its length agree
 run_alike : (run n : ℕ) (u : Bool) (ticks m m' : ℕ) → (¬ (run ≡ 0) → run ≤ n → u ≡ true → m ≡ m') → run_in run n u ticks m ≡ run_in run n u ticks m'
 run_alike run n u ticks m m' e =
-    alike _ _
+    same_from_decides _ _
     (run_decides run n u ticks m)
-    (restated (go m' m (λ h l b. sym (e h l b))) (go m m' e) (run_decides run n u ticks m'))
+    (Decides-like _ (go m' m (λ h l b. sym (e h l b))) (go m m' e) (run_decides run n u ticks m'))
   where
     go : (a b : ℕ) → (¬ (run ≡ 0) → run ≤ n → u ≡ true → a ≡ b) → RunP run n u ticks a → RunP run n u ticks b
     go a b f r = (r.0, λ h. let t = r.1 h in (t.0, t.1, (t.2.0, omega (arith, t.2.1, f h t.0 t.1))))
@@ -63,11 +66,11 @@ module _ (d : Dispatcher) (long : Long d) where
 
   lent_decides : (i : ℕ) → Decides ((since_at d i && job_at d i) && piece_at d i) (LentP i)
   lent_decides i =
-      both (both (leb_decides (s.since i) (S.T i))
-      (both (leb_decides (get_or d.unfinished i 0) 1)
+      Decides-and _ _ (Decides-and _ _ (leb_decides (s.since i) (S.T i))
+      (Decides-and _ _ (leb_decides (get_or d.unfinished i 0) 1)
       (by_test (itself (s.busy i))
       (three (leb_decides (s.left i) (S.D i)) (within_decides 1 (S.m i) (s.phase i)) (leb_decides 1 (s.piece i)))
-      (three (eqb_decides (s.left i) 0) (eqb_decides (s.phase i) 0) (eqb_decides (s.piece i) 0)))))
+      (three (Decides-eqb (s.left i) 0) (Decides-eqb (s.phase i) 0) (Decides-eqb (s.piece i) 0)))))
       (leb_decides (s.piece i) (x i (s.phase i - 1)))
 
   idle_flag : (i : ℕ) → get_or d.unfinished i 0 ≤ 1 → s.busy i ≡ false → get_or d.unfinished i 0 ≡ 0
@@ -85,7 +88,7 @@ module _ (d : Dispatcher) (long : Long d) where
       λ l.
           let z = t.no_task i (omega arith) in
           let b : s.busy i ≡ false = by_cases (s.busy i) (λ b. let j = near.0 b in absurd (omega (arith, j.1.0, j.1.1, z.no_phases))) (λ b. b) in
-          let j = near.1 (failed (itself (s.busy i)) b) in
+          let j = near.1 (not_from_Decides _ (itself (s.busy i)) b) in
           ((((omega (arith, h.0.0, z.no_spacing), idle_flag i h.0.1.0 b), j.0), j.1), j.2),
     )
       where
@@ -99,7 +102,7 @@ module _ (d : Dispatcher) (long : Long d) where
         known n =
             let j = n.2 in (
               (n.0, (n.1, (λ b. let a = j.0 b in (a.0, a.1, a.2.0), j.1))),
-              by_cases (s.busy i) (λ b. (j.0 b).2.1) (λ b. let z = j.1 (failed (itself (s.busy i)) b) in omega (arith, z.2)),
+              by_cases (s.busy i) (λ b. (j.0 b).2.1) (λ b. let z = j.1 (not_from_Decides _ (itself (s.busy i)) b) in omega (arith, z.2)),
             )
 
         go : Dec (i < S.n) → LentP i
@@ -109,7 +112,7 @@ module _ (d : Dispatcher) (long : Long d) where
             known (
               omega (arith, z.0.0.0.0),
               omega (arith, z.0.0.0.1),
-              (λ b. absurd (failed (itself (s.busy i)) (ap (λ v. eqb v 1) z.0.0.0.1) b), λ b. (z.0.0.1, z.0.1, z.1)),
+              (λ b. absurd (not_from_Decides _ (itself (s.busy i)) (ap (λ v. eqb v 1) z.0.0.0.1) b), λ b. (z.0.0.1, z.0.1, z.1)),
             )
 
     changing_are : ((all_to 32 (since_at d) && all_to 32 (job_at d)) && all_to 32 (piece_at d)) ≡ all_to 32 (changing_test d)
@@ -142,5 +145,5 @@ module _ (d : Dispatcher) (long : Long d) where
       ap (λ b. b && running_all d) (and_where W (λ e. changing_are (in_table e))) ∙
       and_where (W && all_to 32 (changing_test d))
       (λ e.
-      let t = and_both W (all_to 32 (changing_test d)) e in
+      let t = and_parts W (all_to 32 (changing_test d)) e in
       run_is (in_table t.0) ((every 32 (changing_test d) (ChangingP d) (changing_decides d)).0 t.1))

@@ -2,7 +2,8 @@
 -- Assumes nothing.
 use Rattle.std.specs.Prelude.{◌≡◌, refl, Bool, true, false, ◌&&◌, List, ◌⊎◌, ℕ, ◌+◌, ◌*◌, ◌/◌, ◌%◌, ◌≤◌, ◌<◌, ltb, get_or}
 use Rattle.std.proofs.Common.{sym, ap, ap₂, ◌∙◌, true≢false, inl, inr, ⊎_elim, arith, lt-ltb}
-use Rattle.finite.proofs.laws.Tests.{cond_false, cond_true, le_or_lt}
+use Rattle.finite.proofs.laws.Tests.{le_or_lt}
+use Rattle.std.proofs.lemmas.Bool.{cond-false, cond-true}
 use Rattle.model.specs.Arrays.{phase_at}
 use Rattle.model.specs.Tasks.{Tasks}
 use Rattle.model.proofs.laws.Arrays.{phase_at_lem, phase_none}
@@ -33,5 +34,5 @@ module _ (S : Tasks) (xs : List ℕ) (no_task : (p : ℕ) → S.n ≤ p / 8 → 
   all_used = λ k i j. same i j (ltb i S.n && ltb j (S.m i)) refl k
     where
       same : (i j : ℕ) (b : Bool) → (ltb i S.n && ltb j (S.m i)) ≡ b → used S (phase_at xs) i j ≡ phase_at xs i j
-      same i j true e = cond_true _ (phase_at xs i j) 0 e
-      same i j false e = cond_false _ (phase_at xs i j) 0 e ∙ sym (no_count i j e)
+      same i j true e = cond-true _ (phase_at xs i j) 0 e
+      same i j false e = cond-false _ (phase_at xs i j) 0 e ∙ sym (no_count i j e)

@@ -8,12 +8,12 @@ use Rattle.std.proofs.Math.Logic.{⊎_elim}
 use Prim.Native.Nat.{ℕ, suc, ◌*◌, ◌-◌, ◌≤◌, ◌<◌, min, max}
 use Rattle.std.proofs.Math.Nat.{le_antisymm, min-eq_left, min-eq_right, max-eq_left, max-eq_right}
 use Rattle.std.proofs.Math.ListN.{get_or}
-use Rattle.std.proofs.lemmas.Bool.{lt-leb}
+use Rattle.std.proofs.lemmas.Bool.{lt-leb, true_from_ne_false, le-ltb, lt-ltb}
 use Rattle.finite.specs.Finite.{Below}
 use Rattle.std.specs.Prelude.{if◌then◌else◌}
 use Rattle.finite.proofs.laws.Extremes.{min_attained, min_lower}
 use Rattle.finite.proofs.laws.Sums.{sum_cong}
-use Rattle.finite.proofs.laws.Tests.{fails, le_or_lt, ltb_decides, otherwise_true}
+use Rattle.finite.proofs.laws.Tests.{le_or_lt}
 use Rattle.model.specs.Arrays.{Arrays, as_tasks}
 use Rattle.model.specs.Tasks.{Tasks, Each}
 use Rattle.model.specs.Phase.{Choice, Phases, phases_of}
@@ -139,17 +139,17 @@ module _ (a : Arrays) (h : ℕ) (lim : Walkable a h) where
     module _ (go : WalksOn a t e.demand) where
       -- no phase of a task that blocks is stuck
       roomy : Each S (λ i j. t < get_or a.deadline i 0 → P.room i j (t - e.demand) ≡ true)
-      roomy i j l k late = otherwise_true (P.room i j (t - e.demand)) (λ z. go.free i l (j, k, (late, z)))
+      roomy i j l k late = true_from_ne_false (P.room i j (t - e.demand)) (λ z. go.free i l (j, k, (late, z)))
 
       -- the counts after the point are the earlier ones, raised
       raised : Each S (λ i j. choice_of a e i j ≡ raise S P t (t - e.demand) (choice_of a s) i j)
       raised i j l k =
           ⊎_elim
           (λ (le : get_or a.deadline i 0 ≤ t).
-          let kept = raise_kept P (above S t) (t - e.demand) (choice_of a s) i j (fails (ltb_decides t (get_or a.deadline i 0)) (omega arith)) in
+          let kept = raise_kept P (above S t) (t - e.demand) (choice_of a s) i j (le-ltb t (get_or a.deadline i 0) (omega arith)) in
           rw (st.last, le-leb (get_or a.deadline i 0) t le) (ap (P.need i j) (cut_next i l le)) ∙ sym kept)
           (λ (lt : t < get_or a.deadline i 0).
-          let more = raise_raised P (above S t) (t - e.demand) (choice_of a s) i j ((ltb_decides t (get_or a.deadline i 0)).1 lt) in
+          let more = raise_raised P (above S t) (t - e.demand) (choice_of a s) i j (lt-ltb t (get_or a.deadline i 0) lt) in
           let wait : s.last < get_or a.deadline i 0 = omega (arith, past s r t st.earliest) in
           let was : cut_of a s i ≡ s.low = rw (lt-leb (get_or a.deadline i 0) s.last wait) in
           rw (st.last, lt-leb (get_or a.deadline i 0) t lt, st.low)

@@ -3,10 +3,10 @@
 use Rattle.std.specs.Prelude.{◌≡◌, true, false, List, ℕ, zero, suc, ◌+◌, ◌≤◌, ◌<◌, get_or}
 use Rattle.std.proofs.Common.{sym, ◌∙◌, ⊎_elim, arith}
 use Rattle.std.proofs.Math.Decide.{ℕ_discrete}
-use Rattle.std.proofs.lemmas.Bool.{eqb-false}
+use Rattle.std.proofs.lemmas.Bool.{eqb-false, cond-false, cond-true}
 use Rattle.finite.specs.Finite.{sum_to}
 use Rattle.finite.proofs.laws.Sums.{sum_cong}
-use Rattle.finite.proofs.laws.Tests.{by_cases, cond_false, cond_true, le_or_lt}
+use Rattle.finite.proofs.laws.Tests.{by_cases, le_or_lt}
 use Rattle.model.specs.Arrays.{Arrays}
 use Rattle.model.specs.Ranges.{tasks_most}
 use Rattle.walk.specs.Budgets.{AddedUp, BeforeSum, where_due}
@@ -38,8 +38,8 @@ module _ {n t : ℕ} {next : List ℕ} {mask : ℕ} (d : DueAt n t next mask) wh
   due_mapped {f} {xs} {ys} few idle m =
       record {
         same = m.same;
-        below = λ i l. m.below i (omega arith) ∙ by_cases (bit mask i) (cond_true (bit mask i) _ _) (λ e. cond_false (bit mask i) _ _ e ∙ sym (idle i _ l e));
-        beyond = λ i le. ⊎_elim (m.beyond i) (λ (l : i < tasks_most). m.below i l ∙ cond_false (bit mask i) _ _ (d.beyond i le)) (le_or_lt tasks_most i);
+        below = λ i l. m.below i (omega arith) ∙ by_cases (bit mask i) (cond-true (bit mask i) _ _) (λ e. cond-false (bit mask i) _ _ e ∙ sym (idle i _ l e));
+        beyond = λ i le. ⊎_elim (m.beyond i) (λ (l : i < tasks_most). m.below i l ∙ cond-false (bit mask i) _ _ (d.beyond i le)) (le_or_lt tasks_most i);
       }
 
 module _ {a : Arrays} {t low : ℕ} {k : Known} (r : BeforePoint a t low k) where
