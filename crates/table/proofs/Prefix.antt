@@ -10,7 +10,8 @@ use borrow.Author.Tests.{lt-leb, lt-ltb, eqb-false, ltb-false, ltb-true}
 use lib.Dec.{leb, ltb, eqb, lit<}
 use lib.ListN.{length, get_or, take}
 use lib.Seq.{length-take-le, get_or-take}
-use Rattle.finite.proofs.laws.Tests.{and_both, le_or_lt}
+use Rattle.finite.proofs.laws.Tests.{le_or_lt}
+use Rattle.std.proofs.lemmas.Bool.{and_parts}
 use Rattle.std.specs.Prelude as std
 use Rattle.std.specs.Prelude.{if◌then◌else◌}
 use Rattle.model.specs.Ranges.{FromTo, horizon_most, jobs_most, phase_numbers, phases_most, spacing_most, tasks_most}

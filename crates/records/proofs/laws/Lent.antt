@@ -3,8 +3,10 @@
 use Rattle.std.specs.Prelude.{◌≡◌, refl, Bool, true, false, ◌&&◌, List, ℕ, ◌/◌, ◌%◌, ◌<◌, leb, get_or}
 use Rattle.std.proofs.Common.{sym, ap, ap₂, ◌∙◌, arith}
 use Rattle.finite.specs.Finite.{Below, all_to}
-use Rattle.finite.proofs.laws.Decided.{alike, both, every, restated, within_decides}
-use Rattle.finite.proofs.laws.Tests.{Decides, leb_decides}
+use Rattle.finite.proofs.laws.Decided.{every, within_decides}
+use Rattle.std.proofs.lemmas.Bool.Decides.{Decides-and, Decides-like, same_from_decides}
+use Rattle.std.specs.Bool.{Decides}
+use Rattle.finite.proofs.laws.Tests.{leb_decides}
 use Rattle.model.specs.Arrays.{phase_at}
 use Rattle.model.specs.Ranges.{all_phases, cost_most, number_test, table_test, task_test, tasks_most, work_most}
 use Rattle.model.proofs.laws.Arrays.{phase_place}

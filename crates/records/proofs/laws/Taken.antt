@@ -2,7 +2,7 @@
 -- Assumes nothing.
 use Rattle.std.specs.Prelude.{◌≡◌, Bool, true, false, ◌&&◌}
 use Rattle.std.proofs.Common.{sym, ap, ◌∙◌, subst}
-use Rattle.finite.proofs.laws.Tests.{cond_false, cond_true}
+use Rattle.std.proofs.lemmas.Bool.{cond-false, cond-true}
 use Rattle.records.specs.Held.{held_in, held_test}
 use Rattle.records.specs.Lent.{changing_all, running_all}
 use Rattle.records.specs.Ranges.{in_range}
@@ -21,12 +21,12 @@ module _ (d : Dispatcher) (long : Long d) (held changing runs : Bool)
 
   -- a record whose tests pass as it is
   pub taken_in : (held && changing && runs) ≡ true → Taken d d
-  taken_in h = let range : in_range d ≡ true = sym whole ∙ h in record { is = sym (cond_true (in_range d) d empty_record range); range = range; long = long }
+  taken_in h = let range : in_range d ≡ true = sym whole ∙ h in record { is = sym (cond-true (in_range d) d empty_record range); range = range; long = long }
 
   -- any other as the empty one
   pub taken_out : (r : Dispatcher) → (held && changing && runs) ≡ false → r ≡ empty_record → Taken d r
   taken_out r h e = record {
-    is = e ∙ sym (cond_false (in_range d) d empty_record (sym whole ∙ h));
+    is = e ∙ sym (cond-false (in_range d) d empty_record (sym whole ∙ h));
     range = ap in_range e ∙ empty_in_range;
     long = subst Long (sym e) empty_long;
   }

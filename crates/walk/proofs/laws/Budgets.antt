@@ -7,7 +7,7 @@ use Rattle.std.proofs.lemmas.List.{set-get_or}
 use Rattle.finite.specs.Finite.{sum_to}
 use Rattle.std.specs.Prelude.{if◌then◌else◌}
 use Rattle.finite.proofs.laws.Sums.{sum_but_at, sum_cong, sum_zero}
-use Rattle.finite.proofs.laws.Tests.{cond_false}
+use Rattle.std.proofs.lemmas.Bool.{cond-false}
 use Rattle.model.specs.Arrays.{Arrays, as_tasks}
 use Rattle.model.specs.Ranges.{tasks_most}
 use Rattle.pieces.specs.Bounds.{budget_most}
@@ -198,7 +198,7 @@ module _ {a : Arrays} {t low mask : ℕ} {k : Known} {rest : ℕ} {k' : Known} {
       -- nothing wraps
       pub adding_fits : added + b ≤ added_most + budget_most
       adding_fits =
-          let old : get_or k'.budget first 0 ≡ get_or k.budget first 0 = so.so_far.budget.below first f.place ∙ cond_false (is_added mask rest first) _ _ (is_added_rest mask rest first f.marked) in
+          let old : get_or k'.budget first 0 ≡ get_or k.budget first 0 = so.so_far.budget.below first f.place ∙ cond-false (is_added mask rest first) _ _ (is_added_rest mask rest first f.marked) in
           let small : b ≤ budget_most = rw (e.is, old) (budget_bounded so.ready first f.place due) in
           omega (arith, added_at_most so.ready (is_added_of mask rest) so.so_far)
 

@@ -5,7 +5,9 @@ use Rattle.std.proofs.lemmas.Iterator.{cases_from_any, YieldsList-from_slice}
 use Rattle.std.proofs.lemmas.List.{get_or-take}
 use Rattle.finite.specs.Finite.{any_to, Some}
 use Rattle.finite.proofs.laws.Searches.{any_decides}
-use Rattle.finite.proofs.laws.Tests.{Decides, fails, ltb_decides}
+use Rattle.finite.proofs.laws.Tests.{fails}
+use Rattle.std.proofs.lemmas.Bool.Decides.{Decides-ltb}
+use Rattle.std.specs.Bool.{Decides}
 use Rattle.model.specs.Ranges.{phases_most}
 use Rattle.writer.proofs.has_long_task.Goals as goal
 
@@ -18,7 +20,7 @@ Found most n xs r =
 
 module _ (most n : ℕ) (xs : List ℕ) (inside : n ≤ length xs) where
   decides : Decides (any_to n (λ i. ltb most (get_or xs i 0))) (Some n (λ i. most < get_or xs i 0))
-  decides = any_decides n (λ i. ltb most (get_or xs i 0)) (λ i. most < get_or xs i 0) (λ i _. ltb_decides most (get_or xs i 0))
+  decides = any_decides n (λ i. ltb most (get_or xs i 0)) (λ i. most < get_or xs i 0) (λ i _. Decides-ltb most (get_or xs i 0))
 
   any_of : (r : Bool) → Found most n xs r → r ≡ any_to n (λ i. ltb most (get_or xs i 0))
   any_of true f =
