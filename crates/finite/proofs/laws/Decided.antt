@@ -7,8 +7,6 @@ use Rattle.std.proofs.Math.Bool.{and_comm}
 use Rattle.std.proofs.lemmas.Bool.Decides.{Decides-and, Decides-below_and, Decides-like}
 use Rattle.finite.specs.Finite.{Below, all_to}
 use Rattle.finite.proofs.laws.Tests.{leb_decides}
--- The kit's own fact, by the name that crates above this one still cite.
-pub use Rattle.std.proofs.lemmas.Bool.Decides.{same_from_decides as alike}
 
 -- a second test need decide only where the first passes
 pub under : (a : Bool) {b : Bool} {P Q : Type 0} → Decides a P → (P → Decides b Q) → Decides (a && b) (P × Q)
@@ -31,11 +29,3 @@ by_test {a} e p q = test_cases a e p q
 pub every : (n : ℕ) (p : ℕ → Bool) (P : ℕ → Type 0) → ((i : ℕ) → Decides (p i) (P i)) → Decides (all_to n p) (Below n P)
 unfolding all_to
 every n p P d = Decides-below_and p P (λ n. all_to n p) d refl (λ n. and_comm (all_to n p) (p n)) n
-
--- ---- the kit's own facts, by the names that crates above this one still cite
-
-pub restated : {b : Bool} {P Q : Type 0} → (P → Q) → (Q → P) → Decides b P → Decides b Q
-restated f g d = Decides-like _ f g d
-
-pub both : {a b : Bool} {P Q : Type 0} → Decides a P → Decides b Q → Decides (a && b) (P × Q)
-both p q = Decides-and _ _ p q
