@@ -120,7 +120,7 @@ module _ (d : Dispatcher) (long : Long d) where
         ap (λ b. b && all_to 32 (piece_at d)) (sym (all_both 32 (since_at d) (job_at d))) ∙
         sym (all_both 32 (λ i. since_at d i && job_at d i) (piece_at d)) ∙
         all_alike 32 (λ i. (since_at d i && job_at d i) && piece_at d i) (changing_test d)
-        (λ i l. alike _ _ (lent_decides i) (restated (to i) (from i) (changing_decides d i)))
+        (λ i l. same_from_decides _ _ (lent_decides i) (Decides-like _ (to i) (from i) (changing_decides d i)))
 
     -- ---- the running piece
 

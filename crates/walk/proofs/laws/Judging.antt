@@ -188,8 +188,8 @@ module _ (a : Arrays) (h : ℕ) (lim : Walkable a h) where
         phase = f.phase.within;
         above = stuck.0;
         no_room = stuck.1;
-        earlier_tasks = λ k kl late b bl. otherwise_true (P.room k b M) (λ z. f.task.earlier k kl (b, bl, (late, z)));
-        earlier_phases = λ b bl. otherwise_true (P.room i b M) (λ z. f.phase.earlier b bl (stuck.0, z));
+        earlier_tasks = λ k kl late b bl. true_from_ne_false (P.room k b M) (λ z. f.task.earlier k kl (b, bl, (late, z)));
+        earlier_phases = λ b bl. true_from_ne_false (P.room i b M) (λ z. f.phase.earlier b bl (stuck.0, z));
       }
 
   module _ (t : ℕ) (s e : WalkState) (r : Reached a h s) (st : PointStep a h t s e) where

@@ -71,7 +71,7 @@ module _ {a : Arrays} {t low : ℕ} {k : Known} (r : BeforePoint a t low k) wher
               record {
                 budget = due_mapped p.due r.few (λ i v l e. settled_other t _ _ v (not_first i l e)) m.budget;
                 cuts = due_mapped p.due r.few (λ i v l e. settled_other t _ low v (not_first i l e)) m.cuts;
-                sum = m.sum ∙ sum_short tasks_most a.tasks _ r.few (λ i le. cond_false (bit moved.due i) _ _ (p.due.beyond i le)) ∙ sum_cong a.tasks _ _ (λ i l. rw (p.due.each i l));
+                sum = m.sum ∙ sum_short tasks_most a.tasks _ r.few (λ i le. cond-false (bit moved.due i) _ _ (p.due.beyond i le)) ∙ sum_cong a.tasks _ _ (λ i l. rw (p.due.each i l));
                 most = added_at_most before_sum (λ i e. e) m;
               };
         }
