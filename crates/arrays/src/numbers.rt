@@ -2,6 +2,7 @@
 ghost use Rattle.std.specs.Prelude.{◌≡◌, cond, ◌-◌, ◌<◌};
 
 // The first where the test holds, and otherwise the second.
+// Stays a flag: it is the conditional itself, without a branch, and no switch between steps.
 pub fn choose<T: Copy>(holds: bool, first: T, second: T) -> T
     ensures { result ≡ cond holds first second }
 {

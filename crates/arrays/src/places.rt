@@ -3,6 +3,7 @@ ghost use Rattle.std.specs.Prelude.{◌≡◌, ℕ, Bool, ◌<◌, get_or};
 ghost use Rattle.finite.specs.Finite.{all_to};
 
 // What stands at a place, and 0 beyond the last.
+// Stays a number: the definitions read 0 beyond the last place (`get_or`), and the record has 0 for what is not there.
 pub fn at<const N: usize>(array: &[u32; N], place: usize) -> u32
     ensures { result ≡ get_or array.now place 0 }
 {

@@ -17,6 +17,7 @@ pub struct Admitted {
 }
 
 // The task that ran (from 1; 0 for none), its phase and piece; whether the piece ended, whether the job finished.
+// Stays: these are the answer's fields as C has them, three zeros for none.
 #[derive(Clone, Copy)]
 pub struct Ran {
     pub task: u32,
@@ -68,6 +69,7 @@ pub fn pick(mut held: Dispatcher) -> Dispatcher
 }
 
 // What is answered of the piece that ran.
+// Stays a flag: it is a field of the answer, and no switch between steps.
 fn told(due: Due, ended: bool) -> Ran
     ensures { result ≡ told_of due ended }
 {

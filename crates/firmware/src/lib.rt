@@ -11,6 +11,7 @@ use start::{How, Started};
 use table::TurnedAway;
 
 // What `clinkerbell_judge` returns: reason 0 and the answer's length, or the reason and the place.
+// Stays for C: a reason is document 01's number there.
 #[repr(C)]
 #[derive(Clone, Copy)]
 pub struct Outcome {
@@ -49,6 +50,7 @@ pub extern "C" fn clinkerbell_judge(table: &[u8], answer: &mut [u8]) -> Outcome
 
 // What `clinkerbell_start` returns: 0 ready, with the record before its first tick; 1 refused, with the witness, the demand there, the points
 // examined, and the blocked task and phase; 2 turned away, with the reason and the place.
+// Stays for C: the outcome and the reason are numbers there.
 #[repr(C)]
 #[derive(Clone, Copy)]
 pub struct StartOutcome {
@@ -109,6 +111,7 @@ pub extern "C" fn clinkerbell_start(table: &[u8]) -> StartOutcome
 }
 
 // Moves the caller's own record forward by a tick.
+// Stays a flag: document 01's tick takes one, and C hands it in.
 #[unsafe(no_mangle)]
 pub extern "C" fn clinkerbell_tick(dispatcher: &mut Dispatcher, mask: u32, flag: bool) -> Answer
     ensures { Ticks dispatcher.old mask flag dispatcher.new result }

@@ -53,6 +53,7 @@ pub fn demand_of(tasks: [TaskLoad; 32], t: u64) -> Option<u64>
 }
 
 // Moves the caller's own record forward by a tick, and answers what the tick answers.
+// Stays a flag: document 01's tick takes one, and C hands it in.
 pub fn tick(dispatcher: &mut Dispatcher, mask: u32, flag: bool) -> Answer
     ensures { Ticks dispatcher.old mask flag dispatcher.new result }
 {
@@ -62,6 +63,7 @@ pub fn tick(dispatcher: &mut Dispatcher, mask: u32, flag: bool) -> Answer
 }
 
 // The same of a record by value: whoever calls it makes no reference to a struct.
+// Stays a flag: document 01's tick takes one, and C hands it in.
 pub fn ticked(dispatcher: Dispatcher, mask: u32, flag: bool) -> Ticked
     ensures { Ticks dispatcher mask flag result.next result.answer }
 {

@@ -23,6 +23,7 @@ fn filled<const N: usize, F: Fn(usize) -> u32>(f: F) -> [u32; N]
 }
 
 // The count at a place: the least for its task's margin, and 0 where no phase stands.
+// Stays a number: document 01 has 0 at an unused place.
 #[tactic(auto, unfolding(crate::specs::Counts::count_at))]
 fn count_at(table: &Table, cuts: &[u64; 32], place: usize) -> u32
     requires { (place < 256) × Below table.now.tasks (λ i. Roomy (tasks_of table.now) (get_or cuts.now i 0) i) }
@@ -40,6 +41,7 @@ fn count_at(table: &Table, cuts: &[u64; 32], place: usize) -> u32
 }
 
 // The counts: the least for each task's margin, in a phase's place; unused places are 0.
+// Stays beside `longests`: both are one call of the one `filled`.
 pub fn counts(table: &Table, cuts: &[u64; 32]) -> [u32; 256]
     requires { Below table.now.tasks (λ i. Roomy (tasks_of table.now) (get_or cuts.now i 0) i) }
     ensures { result ≡ list_to 256 (count_at table.now.tasks (tasks_of table.now) (λ i. get_or cuts.now i 0)) }
@@ -48,6 +50,7 @@ pub fn counts(table: &Table, cuts: &[u64; 32]) -> [u32; 256]
 }
 
 // The longest piece at a task's place, and 0 where there is no task.
+// Stays a number: an unused place is 0, as in the counts.
 #[tactic(auto, unfolding(crate::specs::Counts::longest_at))]
 fn longest_at(table: &Table, counts: &[u32; 256], i: usize) -> u32
     requires { Below table.now.tasks (InPieces (tasks_of table.now) (phase_at counts.now)) }
@@ -60,6 +63,7 @@ fn longest_at(table: &Table, counts: &[u32; 256], i: usize) -> u32
 }
 
 // The longest piece of each task; unused places are 0.
+// Stays beside `counts`: both are one call of the one `filled`.
 pub fn longests(table: &Table, counts: &[u32; 256]) -> [u32; 32]
     requires { Below table.now.tasks (InPieces (tasks_of table.now) (phase_at counts.now)) }
     ensures { result ≡ list_to 32 (longest_at table.now.tasks (tasks_of table.now) (phase_at counts.now)) }

@@ -28,6 +28,7 @@ pub fn room_at(table: &Table, i: usize, j: usize, margin: u64) -> bool
 }
 
 // The least count for which every piece of phase j of task i fits a margin.
+// Stays beside `brought_at`: alike in shape alone, each calls another function of a phase's numbers.
 pub fn need_at(table: &Table, i: usize, j: usize, margin: u64) -> u64
     requires { (i < tasks_most) × (j < phases_most) × ((phases_of (tasks_of table.now)).room i j margin ≡ true) × (margin ≤ horizon_most) }
     ensures { result ≡ (phases_of (tasks_of table.now)).need i j margin }
@@ -38,6 +39,7 @@ pub fn need_at(table: &Table, i: usize, j: usize, margin: u64) -> u64
 }
 
 // What phase j of task i brings to the budget under that count.
+// Stays beside `need_at`: alike in shape alone, each calls another function of a phase's numbers.
 pub fn brought_at(table: &Table, i: usize, j: usize, margin: u64) -> u64
     requires { (i < tasks_most) × (j < phases_most) × PhaseFits (phase_at table.now.work i j) (phase_at table.now.cost i j) margin }
     ensures { (result ≡ brings (tasks_of table.now) (needs (phases_of (tasks_of table.now)) margin) i j) × (result ≤ phase_most) }

@@ -18,6 +18,7 @@ use table::Table;
 // the ticks since the last admitted release, whether a job is unfinished (1, else 0), its time left, its phase and piece; the running task and the
 // ticks left of its piece. C lends its memory, so that every bit pattern there has to be a record: whether a job is unfinished is a number, and tasks,
 // phases and pieces are numbered from 1, with 0 for none (docs/DECISIONS, 13).
+// Stays a struct of arrays: C has it so, and document 01 names the form.
 #[repr(C)]
 #[derive(Clone, Copy)]
 pub struct Dispatcher {
@@ -57,6 +58,7 @@ impl Dispatcher {
     };
 
     // The same as a call, with its promise.
+    // Stays beside `Table::empty`: document 01 wants the empty record as a constant of its type, and each promises its own.
     pub fn empty() -> Dispatcher
         ensures { result ≡ empty_record }
     {

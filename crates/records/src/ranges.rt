@@ -12,6 +12,7 @@ use arrays::places::{all_places, at};
 use table::Table;
 
 // A number of a phase from `least` to `most`; 0 at a place that is not used.
+// Stays a flag: whether a place is used is data, and the test has no branch.
 fn in_place(used: bool, least: u32, most: u32, number: u32) -> bool
     ensures { result ≡ in_place used least most number }
 {
@@ -19,6 +20,7 @@ fn in_place(used: bool, least: u32, most: u32, number: u32) -> bool
 }
 
 // The count of a phase, from 1 to its work.
+// Stays a flag: whether a place is used is data, and the test has no branch.
 fn count_in(used: bool, work: u32, count: u32) -> bool
     ensures { result ≡ in_place used 1 work count }
 {

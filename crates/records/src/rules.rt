@@ -19,6 +19,7 @@ pub struct Due {
 }
 
 // The mask with a task's bit besides, where it enters.
+// Stays a flag: whether the task enters is data, and no switch between steps.
 fn with_bit(entered: u32, task: usize, enters: bool) -> u32
     requires { (task < 32) × (entered < 2 ^ task) }
     ensures { result ≡ digit enters * 2 ^ task + entered }
@@ -53,6 +54,7 @@ impl Dispatcher {
     // ---- rule 2: the job that goes first, and the ticks of its piece
 
     // The task (from 1; 0 for none) of the unfinished job with least time left; on equal time left, the lower number.
+    // Stays a number: 0 is no task in the record and in the answer, as C has them.
     pub fn urgent(&self) -> u32
         ensures { result ≡ urgent_of self.now 32 }
     {

@@ -21,6 +21,7 @@ pub struct Refusal {
 }
 
 // The dispatcher is ready; or the table is refused; or it is turned away.
+// Stays an enum of its own: document 01 has three outcomes, each beside a record (clauses of `start::start`), and none is the error of another.
 #[derive(Clone, Copy, Debug, PartialEq, Eq)]
 pub enum How {
     Ready,

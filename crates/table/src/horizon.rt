@@ -8,6 +8,7 @@ ghost use Rattle.table.specs.Horizon.{none_above, Spacings};
 use crate::Table;
 
 // The greatest common divisor: the second number falls at each call.
+// Stays a recursion with its test: document 01 names this form.
 #[tactic(auto, using(crate::proofs::Multiples::gcd_zero, crate::proofs::Multiples::gcd_step))]
 fn gcd(a: u64, b: u64) -> u64
     ensures { result ≡ gcd a b }

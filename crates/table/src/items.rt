@@ -8,6 +8,7 @@ use crate::{Reason, Table, TurnedAway};
 use groups::{Number, NumberError};
 
 // Why, and where, a table is turned away that has no number at `at`.
+// Stays with a place: a reason's place is one of the whole table.
 fn no_number(bytes: &[u8], at: usize, error: NumberError) -> TurnedAway
     ensures { result ≡ away_for bytes.now at error }
 {
@@ -24,6 +25,7 @@ fn no_number(bytes: &[u8], at: usize, error: NumberError) -> TurnedAway
 }
 
 // The number from `least` to `most` that is due at `at`.
+// Stays with a place: a reason's place is one of the whole table; `Reader` keeps it beside the bytes.
 #[inline]
 fn number(bytes: &[u8], at: usize, least: u64, most: u64) -> Result<Number, TurnedAway>
     ensures is { result ≡ number_of (number_in least most bytes.now at) }
