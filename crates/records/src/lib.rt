@@ -16,8 +16,8 @@ use table::Table;
 
 // The record. T, D and the number of phases of each task; c, q and the count of each phase, eight places for each task; then what a tick changes:
 // the ticks since the last admitted release, whether a job is unfinished (1, else 0), its time left, its phase and piece; the running task and the
-// ticks left of its piece. C lends its memory, so that every bit pattern there has to be a record: whether a job is unfinished is a number, and tasks,
-// phases and pieces are numbered from 1, with 0 for none (docs/DECISIONS, 13).
+// ticks left of its piece. C lends its memory, so that every bit pattern there has to be a record: whether a job is unfinished is a number, and
+// tasks, phases and pieces are numbered from 1, with 0 for none (docs/DECISIONS, 13).
 // Stays a struct of arrays: C has it so, and document 01 names the form.
 #[repr(C)]
 #[derive(Clone, Copy)]

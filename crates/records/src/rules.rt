@@ -1,5 +1,5 @@
-// The tick's rules on the record, which is lent and never copied: whom to let in, which job goes first, and which piece of it is due. Tasks are numbered
-// from 1, with 0 for none, as in the record that C has.
+// The tick's rules on the record, which is lent and never copied: whom to let in, which job goes first, and which piece of it is due. Tasks are
+// numbered from 1, with 0 for none, as in the record that C has.
 ghost use Rattle.std.specs.Prelude.{◌≡◌, ◌+◌, ◌*◌, ◌^◌, ◌<◌};
 ghost use Rattle.finite.specs.Masks.{digit, mask_of};
 ghost use Rattle.records.specs.Rules.{enters_of, urgent_of, place_of, ticks_of, due_of};
