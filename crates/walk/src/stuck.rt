@@ -33,7 +33,8 @@ fn stuck_phase(table: &Table, i: usize, t: u64, margin: u64) -> Option<usize>
     lacking(table, i, margin)
 }
 
-// Why the walk stops: the blocked task and phase, numbered from 1, or 0 and 0 where the demand is above the point.
+// Why the walk stops: the blocked task and phase, numbered from 1, or 0 and 0 where the demand is above the point. (Two numbers and no enum: they are
+// those that `answer::refused` writes.)
 #[derive(Clone, Copy)]
 pub struct Blocked {
     pub task: usize,

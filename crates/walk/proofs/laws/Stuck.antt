@@ -1,14 +1,15 @@
 -- What stops the walk at a point, or lets it go on.
 -- Assumes nothing.
 use Rattle.std.specs.Prelude.{◌≡◌, Bool, true, false, ℕ, ◌+◌, ◌-◌, ◌≤◌, ◌<◌, Option, Some, None, get_or}
-use Rattle.std.proofs.Common.{sym, ◌∙◌, true≢false, arith, below_more, below_none}
+use Rattle.std.proofs.Common.{arith, below_more, below_none}
+use Rattle.std.proofs.lemmas.Bool.{both_ways}
 use Rattle.finite.specs.Finite.{Below}
 use Rattle.model.specs.Arrays.{Arrays}
 use Rattle.walk.specs.Stuck.{BeforeStop, FirstStuck, FirstWhere, IsFirst, PointJudged, Stuck, StuckTask, blocked, overloaded}
 
 -- no test has both outcomes
 pub not_both : {b : Bool} → b ≡ true → b ≡ false → ⊥
-not_both t f = true≢false (sym t ∙ f)
+not_both t f = both_ways _ f t
 
 -- ---- a search that goes on while the property fails
 
