@@ -19,7 +19,7 @@ use Rattle.table.specs.declared.Table.{Table}
 use Rattle.table.specs.declared.items.Reader.{Reader}
 use Rattle.table.specs.declared.TurnedAway.{TurnedAway}
 use Rattle.table.specs.Parse.{Result, got, away, Parser, and_then, ◌>>=◌, ◌>>◌, done, turned_away, tested, number_in, numbers_in, each, phase, task, nothing_behind, numbers, table, empty, with_count, with_phase, with_task, parsed_of, limit_of, reading_of}
-use Rattle.table.specs.Steps.{Reads, all_tasks, away_for, number_of, with_read}
+use Rattle.table.specs.Steps.{Reads, all_tasks, found_at, number_of, with_read}
 use Rattle.table.specs.TaskModel.{tasks_of}
 use Rattle.table.specs.Valid.{InRange}
 use Rattle.table.proofs.Ranges.{limited_by, limited_reading}
@@ -33,31 +33,28 @@ pub passed_on : {T E : Type 0} {e : E} (r : std.Result T E) → IsErrAnd r (λ (
 passed_on (std.Ok x) h = absurd h
 passed_on (std.Err y) h = ap std.Err h
 
--- what the number reader finds at a place, and the same with its error as a reason and a place
-pub record Due (s : List ℕ) (at : ℕ) (read : std.Result Number NumberError) (found : std.Result Number TurnedAway) : Type 0 where
-  pub is : read ≡ number_at s at
-  pub told : MatchResult read (λ n. found ≡ std.Ok n) (λ e. IsErrAnd found (λ a. a ≡ away_for s at e))
-
-module _ (least most : ℕ) {s : List ℕ} {at : ℕ} {read : std.Result Number NumberError} {found : std.Result Number TurnedAway} (d : Due s at read found) where
-  -- none stands there
+-- what is found at a place
+module _ (least most : ℕ) (s : List ℕ) (at : ℕ) {found : std.Result Number TurnedAway} (is : found ≡ found_at s at (number_at s at)) where
+  -- no number
   pub none : {a : TurnedAway} → found ≡ std.Err a → found ≡ number_of (number_in least most s at)
   unfolding number_in
-  none {a} e = by read d.told ∙ ap (λ (r : std.Result Number NumberError). number_of (tested least most r s at)) d.is
+  none {a} e = by (number_at s at) is
     where
-      by : (r : std.Result Number NumberError) → MatchResult r (λ n. found ≡ std.Ok n) (λ x. IsErrAnd found (λ b. b ≡ away_for s at x)) → found ≡ number_of (tested least most r s at)
+      by : (r : std.Result Number NumberError) → found ≡ found_at s at r → found ≡ number_of (tested least most r s at)
       by (std.Ok n) told = cc
-      by (std.Err Ends) told = passed_on found told
-      by (std.Err Malformed) told = passed_on found told
+      by (std.Err Ends) told = told
+      by (std.Err Malformed) told = told
 
   module _ {n : Number} (e : found ≡ std.Ok n) where
     read_is : std.Ok n ≡ number_at s at
-    read_is = by read d.told ∙ d.is
+    read_is = by (number_at s at) is
       where
-        by : (r : std.Result Number NumberError) → MatchResult r (λ n. found ≡ std.Ok n) (λ x. IsErrAnd found (λ b. b ≡ away_for s at x)) → std.Ok n ≡ r
-        by (std.Ok m) told = let same : n ≡ m = cc in ap std.Ok same
-        by (std.Err x) told = let f = sym e ∙ passed_on found told in cc
+        by : (r : std.Result Number NumberError) → found ≡ found_at s at r → std.Ok n ≡ r
+        by (std.Ok m) told = cc
+        by (std.Err Ends) told = cc
+        by (std.Err Malformed) told = cc
 
-    -- one does, outside its range or inside
+    -- a number, outside its range or inside
     pub outside : (least ≤ n.value → n.value ≤ most → ⊥) → std.Err (turned_away OutOfRange at) ≡ number_of (number_in least most s at)
     unfolding number_in
     outside not = go (ltb n.value least) (ltb most n.value) refl refl ∙ ap (λ (r : std.Result Number NumberError). number_of (tested least most r s at)) read_is

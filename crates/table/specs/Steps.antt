@@ -14,10 +14,11 @@ use Rattle.table.specs.Parser.{Result, got, away, Parser, ◌>>=◌, answered, t
 use Rattle.table.specs.Parse.{number_in, each, task}
 use Rattle.table.specs.TaskModel.{with_count}
 
--- the reason and the place for turning a table away that has no number at `at`
-abbrev pub away_for : List ℕ → (at : ℕ) → NumberError → TurnedAway
-away_for bytes at number.Ends = turned_away Ends (length bytes)
-away_for bytes at number.Malformed = turned_away Malformed at
+-- what is found at a place by what the number reader answers there: the number, or the reason and the place for turning the table away
+abbrev pub found_at : List ℕ → (at : ℕ) → std.Result Number NumberError → std.Result Number TurnedAway
+found_at bytes at (std.Ok n) = std.Ok n
+found_at bytes at (std.Err number.Ends) = std.Err (turned_away Ends (length bytes))
+found_at bytes at (std.Err number.Malformed) = std.Err (turned_away Malformed at)
 
 -- a number that was read and the place behind it, or the reason and the place for turning the table away
 abbrev pub number_of : Result ℕ → std.Result Number TurnedAway

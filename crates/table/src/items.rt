@@ -1,49 +1,12 @@
 // The items of a table in bytes, read from left to right: a number, a phase, a task, and the loops over phases and tasks, which put what they read into a
 // table. Each goes on from where the one before it stopped, or answers why and where the table is turned away.
 ghost use Rattle.std.specs.Prelude.{◌≡◌, ◌-◌, ◌≤◌, ◌<◌, IfOk};
+ghost use Rattle.groups.specs.Number.{number_at};
 ghost use Rattle.table.specs.Parse.{each, number_in, phase, task};
-ghost use Rattle.table.specs.Steps.{Reads, all_tasks, away_for, number_of, up_to, with_read};
+ghost use Rattle.table.specs.Steps.{Reads, all_tasks, found_at, number_of, up_to, with_read};
 
 use crate::{Reason, Table, TurnedAway};
 use groups::{Number, NumberError};
-
-// Why, and where, a table is turned away that has no number at `at`.
-// Stays with a place: a reason's place is one of the whole table.
-fn no_number(bytes: &[u8], at: usize, error: NumberError) -> TurnedAway
-    ensures { result ≡ away_for bytes.now at error }
-{
-    match error {
-        NumberError::Ends => TurnedAway {
-            reason: Reason::Ends,
-            place: bytes.len(),
-        },
-        NumberError::Malformed => TurnedAway {
-            reason: Reason::Malformed,
-            place: at,
-        },
-    }
-}
-
-// The number from `least` to `most` that is due at `at`.
-// Stays with a place: a reason's place is one of the whole table; `Reader` keeps it beside the bytes.
-#[inline]
-fn number(bytes: &[u8], at: usize, least: u64, most: u64) -> Result<Number, TurnedAway>
-    ensures is { result ≡ number_of (number_in least most bytes.now at) }
-    ensures high { IfOk result (λ n. n.value ≤ most) }
-{
-    let found = groups::read(bytes, at).map_err(|error| no_number(bytes, at, error));
-    // (A let .. else, and no `?`: document 01 names this form for this place.)
-    let Ok(number) = found else {
-        return found;
-    };
-    if !(least..=most).contains(&number.value) {
-        return Err(TurnedAway {
-            reason: Reason::OutOfRange,
-            place: at,
-        });
-    }
-    Ok(number)
-}
 
 // The bytes of a table, and the place that reading has come to.
 #[derive(Drop)]
@@ -53,13 +16,51 @@ struct Reader<'a> {
 }
 
 impl Reader<'_> {
+    // What is found where a number is due: the number and the place behind it, or why and where the table is turned away.
+    #[inline]
+    fn found(&self) -> Result<Number, TurnedAway>
+        ensures { result ≡ found_at self.now.bytes.now self.now.at (number_at self.now.bytes.now self.now.at) }
+    {
+        match groups::read(self.bytes, self.at) {
+            Ok(number) => Ok(number),
+            Err(NumberError::Ends) => Err(TurnedAway {
+                reason: Reason::Ends,
+                place: self.bytes.len(),
+            }),
+            Err(NumberError::Malformed) => Err(TurnedAway {
+                reason: Reason::Malformed,
+                place: self.at,
+            }),
+        }
+    }
+
+    // The number from `least` to `most` that is due, and the place behind it.
+    #[inline(always)]
+    fn due(&self, least: u64, most: u64) -> Result<Number, TurnedAway>
+        ensures is { result ≡ number_of (number_in least most self.now.bytes.now self.now.at) }
+        ensures high { IfOk result (λ n. n.value ≤ most) }
+    {
+        let found = self.found();
+        // Stays a let .. else, where `?` would do: document 01 names this form for this place.
+        let Ok(number) = found else {
+            return found;
+        };
+        if !(least..=most).contains(&number.value) {
+            return Err(TurnedAway {
+                reason: Reason::OutOfRange,
+                place: self.at,
+            });
+        }
+        Ok(number)
+    }
+
     // The next number, from `least` to `most`. (Inlined, and what it calls too: a call for each number takes half as much time again.)
     #[inline(always)]
     fn number(&mut self, least: u64, most: u64) -> Result<u64, TurnedAway>
         ensures reads { Reads (number_in least most) self.old self.new result }
         ensures high { IfOk result (λ v. v ≤ most) }
     {
-        let number = number(self.bytes, self.at, least, most)?;
+        let number = self.due(least, most)?;
         self.at = number.next;
         Ok(number.value)
     }
