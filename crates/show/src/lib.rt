@@ -3,8 +3,10 @@
 
 ghost use Rattle.std.specs.Prelude.{◌≡◌, ◌+◌, ◌%◌, ◌^◌, ◌<◌, ◌≤◌, IfOk, OnOk, length, take, [], ◌∷◌, ◌++◌, decimal};
 ghost use Rattle.std.specs.Io.KnownBytes.{Appends, Consumes, IsAtEnd};
+ghost use Rattle.table.specs.Reason.{reason_number};
 
 use std::io::{self, Read, Write};
+use table::TurnedAway;
 
 // A number behind a space.
 pub fn spaced_number<W: Write>(out: &mut W, n: u64) -> io::Result<()>
@@ -20,15 +22,15 @@ pub fn task_number(i: usize) -> u64
     (i as u64).wrapping_add(1)
 }
 
-// The words, a reason and a place: the line of what was turned away.
-pub fn turned_away<W: Write>(out: &mut W, words: &[u8], reason: u8, place: u64) -> io::Result<()>
+// The words, and the number of the reason and the place: the line of what was turned away.
+pub fn turned_away<W: Write>(out: &mut W, words: &[u8], away: TurnedAway) -> io::Result<()>
     ensures { OnOk result (Appends (W.contents out.old) (W.contents out.new)
-        (words.now ++ (32 ∷ decimal reason) ++ (32 ∷ decimal place) ++ (10 ∷ []))) }
+        (words.now ++ (32 ∷ decimal (reason_number away.reason)) ++ (32 ∷ decimal away.place) ++ (10 ∷ []))) }
 {
+    let reason = u8::from(away.reason);
+    let place = away.place;
     out.write_all(words)?;
-    spaced_number(out, u64::from(reason))?;
-    spaced_number(out, place)?;
-    out.write_all(b"\n")
+    writeln!(out, " {reason} {place}")
 }
 
 // Reads until the buffer is full or the input ends: how many bytes it put at the front of the buffer. They are the next of the input, and fewer than
