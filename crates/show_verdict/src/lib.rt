@@ -1,77 +1,66 @@
 // Prints the verdict on a table, as document 01 has it ("Worked tables").
 #![tactic(auto)]
 
-use edf::JudgeOutcome;
-use groups::Number;
 use std::io::{self, Write};
+use table::{Table, TurnedAway};
 
-// The house number at a place of the answer, behind a space; the place behind it.
-fn number_at<W: Write>(out: &mut W, answer: &[u8], at: usize) -> io::Result<usize> {
-    match groups::read(answer, at) {
-        Number::Value(v, next) => {
-            show::spaced_number(out, v)?;
-            Ok(next)
-        }
-        Number::Ends => Ok(at),
-        Number::Malformed => Ok(at),
+// The house numbers at the front of bytes, one behind the other.
+#[derive(Drop)]
+struct Numbers<'a>(&'a [u8]);
+
+impl<'a> Iterator for Numbers<'a> {
+    type Item = u64;
+
+    fn next(&mut self) -> Option<u64> {
+        let number = groups::read(self.0, 0).ok()?;
+        self.0 = self.0.get(number.next..)?;
+        Some(number.value)
     }
 }
 
-// So many numbers of the answer, and the end of the line; the place behind them.
-fn line_of_numbers<W: Write>(
-    out: &mut W,
-    answer: &[u8],
-    at: usize,
-    count: usize,
-) -> io::Result<usize> {
-    let mut p = at;
-    for _ in 0..count {
-        p = number_at(out, answer, p)?;
+// So many numbers, each behind a space, and the end of the line.
+fn line_of_numbers<W: Write>(out: &mut W, numbers: &mut Numbers, count: usize) -> io::Result<()> {
+    for number in numbers.take(count) {
+        show::spaced_number(out, number)?;
     }
-    out.write_all(b"\n")?;
-    Ok(p)
+    writeln!(out)
 }
 
-// A task's line: its number, its counts and its longest piece; the place behind them.
-fn task_line<W: Write>(
-    out: &mut W,
-    answer: &[u8],
-    at: usize,
-    i: usize,
-    phases: u32,
-) -> io::Result<usize> {
-    write!(out, "{}", show::task_number(i))?;
-    line_of_numbers(out, answer, at, phases as usize + 1)
-}
-
-// An accepted answer: its line, and a line for each task. How many phases a task has stands in the table only.
-fn accepted<W: Write>(out: &mut W, table: &[u8], answer: &[u8]) -> io::Result<()> {
-    out.write_all(b"accepted")?;
-    let mut p = line_of_numbers(out, answer, 1, 2)?;
-    let read = table::read(table).table;
-    for (i, phases) in read.phases.iter().enumerate() {
-        if i < read.tasks {
-            p = task_line(out, answer, p, i, *phases)?;
-        }
+// An accepted answer: its line, and for each task a line with its number, its counts and its longest piece. How many phases a task has stands in the
+// table only.
+fn accepted<W: Write>(out: &mut W, table: &Table, mut numbers: Numbers) -> io::Result<()> {
+    write!(out, "accepted")?;
+    line_of_numbers(out, &mut numbers, 2)?;
+    for (i, phases) in table.phases.iter().take(table.tasks).enumerate() {
+        write!(out, "{}", show::task_number(i))?;
+        line_of_numbers(out, &mut numbers, *phases as usize + 1)?;
     }
     Ok(())
+}
+
+// A refused answer: its line.
+fn refused<W: Write>(out: &mut W, mut numbers: Numbers) -> io::Result<()> {
+    write!(out, "refused")?;
+    line_of_numbers(out, &mut numbers, 5)
+}
+
+// Judges the table in the bytes: the answer is written, and the table is handed back.
+fn judged(bytes: &[u8], answer: &mut [u8]) -> Result<Table, TurnedAway> {
+    edf::judge(bytes, answer)?;
+    table::parse(bytes)
 }
 
 // Judges the table and prints `accepted` with a line for each task, `refused` or `turned away`.
 pub fn verdict<W: Write>(out: &mut W, table: &[u8]) -> io::Result<()> {
     let mut answer = [0u8; answer::ANSWER_ROOM];
-    match edf::judge(table, &mut answer) {
-        JudgeOutcome::TurnedAway(reason, place) => {
-            show::turned_away(out, b"turned away", reason, place as u64)
-        }
-        JudgeOutcome::Answered(_) => {
-            if answer[0] == 0 {
-                accepted(out, table, &answer)
-            } else {
-                out.write_all(b"refused")?;
-                line_of_numbers(out, &answer, 1, 5)?;
-                Ok(())
+    match judged(table, &mut answer) {
+        Ok(table) => {
+            let mut numbers = Numbers(&answer);
+            match numbers.next() {
+                Some(0) => accepted(out, &table, numbers),
+                _ => refused(out, numbers),
             }
         }
+        Err(away) => show::turned_away(out, b"turned away", away),
     }
 }
