@@ -3,20 +3,14 @@
 // the definitions alone, and it does not stand here.
 #![tactic(auto)]
 
-use edf::JudgeOutcome;
 use std::io::{self, Write};
 
-// A byte as a number, behind a space.
-fn spaced_byte<W: Write>(out: &mut W, byte: u8) -> io::Result<()> {
-    show::spaced_number(out, u64::from(byte))
-}
-
-// The first `count` bytes as numbers, each behind a space, and the end of the line.
-fn line_of_bytes<W: Write>(out: &mut W, bytes: &[u8], count: usize) -> io::Result<()> {
-    for byte in bytes.iter().take(count) {
-        spaced_byte(out, *byte)?;
+// Bytes as numbers, each behind a space, and the end of the line.
+fn line_of_bytes<W: Write>(out: &mut W, bytes: &[u8]) -> io::Result<()> {
+    for byte in bytes {
+        show::spaced_number(out, u64::from(*byte))?;
     }
-    out.write_all(b"\n")
+    writeln!(out)
 }
 
 // A table's letter and its answer or what turned it away, on a line.
@@ -24,10 +18,8 @@ fn run<W: Write>(out: &mut W, letter: &[u8], table: &[u8]) -> io::Result<()> {
     out.write_all(letter)?;
     let mut answer = [0u8; answer::ANSWER_ROOM];
     match edf::judge(table, &mut answer) {
-        JudgeOutcome::TurnedAway(reason, place) => {
-            show::turned_away(out, b" turned away", reason, place as u64)
-        }
-        JudgeOutcome::Answered(length) => line_of_bytes(out, &answer, length),
+        Ok(length) => line_of_bytes(out, &answer[..length]),
+        Err(away) => show::turned_away(out, b" turned away", away),
     }
 }
 
