@@ -4,15 +4,17 @@
 
 mod jobs;
 
-ghost use Rattle.std.specs.Prelude.{◌≡◌, ◌≤◌, false, IfOk, length};
+ghost use Rattle.std.specs.Prelude.{◌≡◌, ℕ, ◌<◌, ◌≤◌, IfOk, IfSome, length, slice_range};
+ghost use Rattle.show_run.specs.Runs.{AfterTicks, Begins, StartsOn};
 
 use dispatch::Answer;
-use groups::Number;
-use jobs::{Tally, sum};
+use groups::{Number, NumberError};
+use jobs::{Jobs, Tally};
 use records::Dispatcher;
 use show::turned_away;
 use start::How;
 use std::io::{self, Write};
+use table::{Reason, TurnedAway};
 
 // The longest table that an input may announce: far more than a table that is read has.
 const TABLE_MOST: u64 = 65_535;
@@ -23,205 +25,178 @@ pub const INPUT_ROOM: usize = 65_552;
 // A mask of 32 bits and a flag.
 const REQUEST_MOST: u64 = 8_589_934_591;
 
-// The dispatcher's record, the number of the next tick and its place in the input; `going` until the input is turned away, and `ready` where the
-// dispatcher was started.
+// The bytes of the longest number.
+const NUMBER_MOST: usize = 8;
+
+// A run of a dispatcher that was started: the place of the next tick in the input and its number, the dispatcher's record, and what became of the jobs.
+// (Places and ticks never come near 2^64; nothing here proves it, so their sums are ones that may wrap.)
 #[derive(Clone, Copy)]
 pub struct Run {
-    pub ready: bool,
-    pub going: bool,
-    pub place: u64,
-    pub used: usize,
+    pub place: usize,
     pub tick: u64,
-    pub record: Dispatcher,
+    pub dispatcher: Dispatcher,
     pub tally: Tally,
 }
 
-// A run that was not started: every number is 0.
-fn idle() -> Run
-    ensures { (result.ready ≡ false) × (result.used ≡ 0) }
+// The number at a place of the bytes, at most `most`, or why and where they are turned away.
+fn number(bytes: &[u8], at: usize, most: u64) -> Result<Number, TurnedAway>
+    ensures within { IfOk result (λ n. (at < n.next) × (n.next ≤ length bytes.now)) }
+    ensures range { IfOk result (λ n. n.value ≤ most) }
 {
-    Run {
-        ready: false,
-        going: false,
-        place: 0,
-        used: 0,
-        tick: 0,
-        record: Dispatcher::empty(),
-        tally: jobs::none(),
+    match groups::read(bytes, at) {
+        Ok(number) if number.value <= most => Ok(number),
+        Ok(_) => Err(TurnedAway {
+            reason: Reason::OutOfRange,
+            place: at,
+        }),
+        Err(NumberError::Malformed) => Err(TurnedAway {
+            reason: Reason::Malformed,
+            place: at,
+        }),
+        Err(NumberError::Ends) => Err(TurnedAway {
+            reason: Reason::Ends,
+            place: bytes.len(),
+        }),
     }
 }
 
-// Starts the dispatcher on the table, or prints what the judge says of it.
-fn started<W: Write>(out: &mut W, table: &[u8], used: usize) -> io::Result<Run>
-    ensures { IfOk result (λ r. r.used ≡ used) }
+// The table at the front of the input, and the place behind it.
+fn table_of(input: &[u8]) -> Result<(&[u8], usize), TurnedAway>
+    ensures within { IfOk result (λ r. r.1 ≤ length input.now) }
+    ensures table { IfOk result (λ r. (from : ℕ) × (r.0.now ≡ slice_range input.now from r.1)) }
 {
-    let s = start::start(table);
-    let mut r = idle();
-    r.used = used;
-    r.place = used as u64;
-    let how = s.how;
-    let How::Ready = how else {
-        show_verdict::verdict(out, table)?;
-        return Ok(r);
-    };
-    let d = s.dispatcher;
-    r.record = d;
-    r.ready = true;
-    r.going = true;
-    Ok(r)
+    let length = number(input, 0, TABLE_MOST)?;
+    let end = length.next + length.value as usize;
+    match input.get(length.next..end) {
+        Some(table) => Ok((table, end)),
+        None => Err(TurnedAway {
+            reason: Reason::Ends,
+            place: input.len(),
+        }),
+    }
 }
 
-// Reads the table at the front of the input and starts the dispatcher on it; `used` is the place of the first tick.
-pub fn begin<W: Write>(out: &mut W, input: &[u8]) -> io::Result<Run>
-    ensures { IfOk result (λ r. r.used ≤ length input.now) }
+// Starts the dispatcher on the table, or prints what the judge says of it. The ticks stand behind the table.
+fn started<W: Write>(out: &mut W, table: &[u8], place: usize) -> io::Result<Option<Run>>
+    ensures { IfOk result (λ r. IfSome r (λ run. (run.place ≡ place) × StartsOn table.now run)) }
 {
-    match groups::read(input, 0) {
-        Number::Ends => turned_away(out, b"input turned away", 2, input.len() as u64)?,
-        Number::Malformed => turned_away(out, b"input turned away", 3, 0)?,
-        Number::Value(length, at) => {
-            if TABLE_MOST < length {
-                turned_away(out, b"input turned away", 4, 0)?;
-                return Ok(idle());
-            }
-            let size = length as usize;
-            if at <= input.len() {
-                if size <= input.len() - at {
-                    return started(out, &input[at..at + size], at + size);
-                }
-            }
-            turned_away(out, b"input turned away", 2, input.len() as u64)?;
+    let started = start::start(table);
+    match started.how {
+        How::Ready => Ok(Some(Run {
+            place,
+            tick: 0,
+            dispatcher: started.dispatcher,
+            tally: Tally::NONE,
+        })),
+        How::Refused(_) | How::TurnedAway(_) => {
+            show_verdict::verdict(out, table)?;
+            Ok(None)
         }
     }
-    Ok(idle())
+}
+
+// Reads the table at the front of the input and starts the dispatcher on it. There is no run where the input is turned away, or where the table is not
+// accepted; what is said of it is then printed.
+pub fn begin<W: Write>(out: &mut W, input: &[u8]) -> io::Result<Option<Run>>
+    ensures { IfOk result (λ r. IfSome r (Begins input.now)) }
+{
+    match table_of(input) {
+        Ok((table, place)) => started(out, table, place),
+        Err(away) => {
+            turned_away(out, b"input turned away", away)?;
+            Ok(None)
+        }
+    }
 }
 
 // A tick's line.
-fn print_tick<W: Write>(out: &mut W, tick: u64, a: Answer) -> io::Result<()> {
-    write!(out, "{tick} {} {}", a.admitted, a.away)?;
-    if a.task == 0 {
-        out.write_all(b" -")?;
+fn print_tick<W: Write>(out: &mut W, tick: u64, answer: &Answer) -> io::Result<()> {
+    write!(out, "{tick} {} {}", answer.admitted, answer.away)?;
+    if answer.task == 0 {
+        write!(out, " -")?;
     } else {
-        write!(out, " {} {} {}", a.task, a.phase, a.piece)?;
+        write!(out, " {} {} {}", answer.task, answer.phase, answer.piece)?;
     }
-    if a.finished {
-        out.write_all(b" finished")?;
-    } else if a.ended {
-        out.write_all(b" ended")?;
+    if answer.finished {
+        write!(out, " finished")?;
+    } else if answer.ended {
+        write!(out, " ended")?;
     }
-    out.write_all(b"\n")
-}
-
-// The jobs behind a tick that answered a.
-fn counted(tally: Tally, tick: u64, a: Answer) -> Tally {
-    let t = jobs::admit(tally, tick, a.admitted);
-    if a.finished {
-        if 0 < a.task {
-            return jobs::complete(t, tick, a.task as usize - 1);
-        }
-    }
-    t
-}
-
-// One tick, printed.
-fn one_tick<W: Write>(out: &mut W, run: Run, request: u64) -> io::Result<Run> {
-    let d = run.record;
-    let t = dispatch::tick(d, (request / 2 % 4_294_967_296) as u32, request % 2 == 1);
-    let a = t.answer;
-    print_tick(out, run.tick, a)?;
-    let mut r = run;
-    r.tally = counted(run.tally, run.tick, a);
-    let next = t.next;
-    r.record = next;
-    r.tick = sum(r.tick, 1);
-    Ok(r)
-}
-
-// The input is turned away at its next number.
-fn stopped<W: Write>(out: &mut W, run: Run, reason: u8, place: u64) -> io::Result<Run> {
-    turned_away(out, b"input turned away", reason, place)?;
-    let mut r = run;
-    r.going = false;
-    Ok(r)
-}
-
-// The run with `ready` as given.
-fn with_ready(run: Run, ready: bool) -> Run
-    ensures { result.ready ≡ ready }
-{
-    let mut r = run;
-    r.ready = ready;
-    r
-}
-
-// The ticks that the bytes ask for.
-fn each_tick<W: Write>(out: &mut W, run: Run, bytes: &[u8], whole: bool) -> io::Result<Run> {
-    let mut r = run;
-    let first = run.place;
-    r.used = 0;
-    for _ in 0..bytes.len() {
-        let at = r.used;
-        if at < bytes.len() {
-            if !whole & (bytes.len() - at < 8) {
-                return Ok(r);
-            }
-            match groups::read(bytes, at) {
-                Number::Ends => return stopped(out, r, 2, sum(first, bytes.len() as u64)),
-                Number::Malformed => return stopped(out, r, 3, r.place),
-                Number::Value(v, next) => {
-                    if REQUEST_MOST < v {
-                        return stopped(out, r, 4, r.place);
-                    }
-                    r = one_tick(out, r, v)?;
-                    r.used = next;
-                    r.place = sum(first, next as u64);
-                }
-            }
-        }
-    }
-    Ok(r)
-}
-
-// The ticks that the bytes ask for, `used` bytes of them. Where more input follows (`whole` is false) a number that may go on in it is left.
-pub fn ticks<W: Write>(out: &mut W, run: Run, bytes: &[u8], whole: bool) -> io::Result<Run>
-    ensures { IfOk result (λ r. r.ready ≡ run.ready) }
-{
-    Ok(with_ready(each_tick(out, run, bytes, whole)?, run.ready))
+    writeln!(out)
 }
 
 // A task's line at the end.
-fn print_task<W: Write>(
-    out: &mut W,
-    i: usize,
-    jobs: u64,
-    finished: u64,
-    worst: u64,
-    deadline: u32,
-) -> io::Result<()> {
-    let task = show::task_number(i);
+fn print_task<W: Write>(out: &mut W, i: usize, jobs: &Jobs, deadline: u32) -> io::Result<()> {
     writeln!(
         out,
-        "task {task}: {jobs} let in, {finished} finished, worst response {worst} of {deadline}"
+        "task {}: {} let in, {} finished, worst response {} of {deadline}",
+        show::task_number(i),
+        jobs.admitted,
+        jobs.finished,
+        jobs.worst
     )
 }
 
-// What is told of each task at the end of a run that was ready.
-pub fn finish<W: Write>(out: &mut W, run: Run) -> io::Result<()> {
-    let d = run.record;
-    let deadline = d.deadline;
-    let t = run.tally;
-    if run.ready {
-        for i in 0usize..32 {
-            if i < d.tasks as usize {
-                print_task(
-                    out,
-                    i,
-                    t.admitted[i],
-                    t.finished[i],
-                    t.worst[i],
-                    deadline[i],
-                )?;
-            }
+impl Run {
+    // The jobs that a tick let in, and the one that it finished.
+    fn count_jobs(&mut self, answer: &Answer)
+        ensures { self.new ≡ record self.old { tally = self.new.tally } }
+    {
+        self.tally.admit(self.tick, answer.admitted);
+        if answer.finished && 0 < answer.task {
+            self.tally.complete(self.tick, answer.task as usize - 1);
         }
     }
-    Ok(())
+
+    // One tick, printed.
+    fn take_tick<W: Write>(&mut self, out: &mut W, request: u64) -> io::Result<()>
+        requires { request ≤ REQUEST_MOST }
+        ensures { AfterTicks self.old self.new }
+    {
+        let ticked = dispatch::tick(self.dispatcher, (request / 2) as u32, request % 2 == 1);
+        print_tick(out, self.tick, &ticked.answer)?;
+        self.count_jobs(&ticked.answer);
+        self.dispatcher = ticked.next;
+        self.tick = self.tick.wrapping_add(1);
+        Ok(())
+    }
+
+    // The ticks that the bytes ask for, and how many of the bytes they used; none where the input is turned away at its next number. Where more input
+    // follows (`whole` is false) a number that may go on in it is left.
+    pub fn ticks<W: Write>(
+        &mut self,
+        out: &mut W,
+        bytes: &[u8],
+        whole: bool,
+    ) -> io::Result<Option<usize>>
+        ensures used { IfOk result (λ r. IfSome r (λ n. n ≤ length bytes.now)) }
+        ensures ran { AfterTicks self.old self.new }
+    {
+        let first = self.place;
+        let mut at = 0;
+        while at < bytes.len() && (whole || NUMBER_MOST <= bytes.len() - at) {
+            match number(bytes, at, REQUEST_MOST) {
+                Ok(request) => {
+                    self.take_tick(out, request.value)?;
+                    at = request.next;
+                    self.place = first.wrapping_add(at);
+                }
+                Err(TurnedAway { reason, place }) => {
+                    let place = first.wrapping_add(place);
+                    turned_away(out, b"input turned away", TurnedAway { reason, place })?;
+                    return Ok(None);
+                }
+            }
+        }
+        Ok(Some(at))
+    }
+
+    // What is told of each task at the end.
+    pub fn finish<W: Write>(&self, out: &mut W) -> io::Result<()> {
+        let tasks = self.tally.tasks.iter().zip(self.dispatcher.deadline.iter());
+        for (i, (jobs, deadline)) in tasks.take(self.dispatcher.tasks as usize).enumerate() {
+            print_task(out, i, jobs, *deadline)?;
+        }
+        Ok(())
+    }
 }
