@@ -2,82 +2,55 @@
 // line for each tick and, at the end, what became of each task's jobs; or, of a table that is not accepted, what program `judge` prints.
 #![tactic(auto)]
 
-ghost use Rattle.std.specs.Prelude.{◌≡◌, ◌+◌, ◌≤◌, IfOk, length, take, drop};
+ghost use Rattle.std.specs.Prelude.{◌≡◌, ◌≤◌, ◌<◌, IfOk, length, take, slice_range, List, ℕ, ◌++◌};
+ghost use Rattle.std.specs.Io.KnownBytes.{Consumes, IsAtEnd};
 
 use show_run::Run;
 use std::io::{self, Read, Write};
+use std::ops::Range;
 
-// The bytes from `from` on, `kept` of them, are moved to the front.
-fn moved(buffer: &mut [u8], from: usize, kept: usize)
-    requires { from + kept ≤ length buffer.old }
-    ensures front { take kept buffer.new ≡ take kept (drop from buffer.old) }
-    ensures room { length buffer.new ≡ length buffer.old }
-{
-    buffer.copy_within(from..from + kept, 0);
-}
-
-// Of the first `have` bytes those from `from` on are moved to the front, and the buffer is filled up from standard input. How many bytes it then
-// holds; the input is whole where that is less than its length. Behind an error the buffer has the length that it had.
-fn refilled<R: Read>(
-    input: &mut R,
-    buffer: &mut [u8],
-    from: usize,
-    have: usize,
-) -> io::Result<usize>
+// The part `left` of the buffer is moved to its front, and the buffer is filled up from the input: how many bytes it then holds. They are those of the
+// part and, behind them, the next of the input, and fewer than the buffer has room for only at its end. Behind an error the buffer has the length that
+// it had.
+fn refilled<R: Read>(input: &mut R, buffer: &mut [u8], left: Range<usize>) -> io::Result<usize>
+    requires { (left.start ≤ left.end) × (left.end ≤ length buffer.old) }
     ensures prefix_len { IfOk result (λ n. n ≤ length buffer.new) }
     ensures room { length buffer.new ≡ length buffer.old }
+    ensures bytes { IfOk result (λ n. (more : List ℕ)
+        × (take n buffer.new ≡ slice_range buffer.old left.start left.end ++ more)
+        × Consumes (R.remaining input.old) (R.remaining input.new) more) }
+    ensures end { IfOk result (λ n. n < length buffer.new → IsAtEnd (R.remaining input.new)) }
 {
-    if buffer.len() < have {
-        return Ok(0);
-    }
-    if have < from {
-        return Ok(0);
-    }
-    let kept = have - from;
-    moved(buffer, from, kept);
+    let kept = left.end - left.start;
+    buffer.copy_within(left, 0);
     let more = show::read_full(input, &mut buffer[kept..])?;
     Ok(kept + more)
 }
 
-// The ticks that the bytes from `from` up to `have` ask for.
-fn ticks<W: Write>(
-    out: &mut W,
-    run: Run,
-    buffer: &[u8],
-    from: usize,
-    have: usize,
-    whole: bool,
-) -> io::Result<Run> {
-    if buffer.len() < have {
-        return Ok(run);
-    }
-    if have < from {
-        return Ok(run);
-    }
-    show_run::ticks(out, run, &buffer[from..have], whole)
-}
-
-// All ticks of the input. A proved loop has to end, and nothing says that the input does: it counts its turns.
+// All ticks of the input, of which the buffer holds the front. A proved loop has to end, and nothing says that the input does: it counts its turns.
 fn all_ticks<R: Read, W: Write>(
     input: &mut R,
     out: &mut W,
-    run: Run,
+    run: &mut Run,
     buffer: &mut [u8],
-    have: usize,
-) -> io::Result<Run> {
-    let mut r = run;
-    let mut from = run.used;
-    let mut n = have;
+    held: usize,
+) -> io::Result<()>
+    requires { (run.old.place ≤ held) × (held ≤ length buffer.old) }
+{
+    let mut from = run.place;
+    let mut to = held;
     for _ in 0..u64::MAX {
-        let whole = n < buffer.len();
-        r = ticks(out, r, buffer, from, n, whole)?;
-        if whole || !r.going {
-            return Ok(r);
+        let whole = to < buffer.len();
+        let Some(used) = run.ticks(out, &buffer[from..to], whole)? else {
+            return Ok(());
+        };
+        if whole {
+            return Ok(());
         }
-        n = refilled(input, buffer, from.wrapping_add(r.used), n)?;
+        to = refilled(input, buffer, from + used..to)?;
         from = 0;
     }
-    Ok(r)
+    Ok(())
 }
 
 // The front of the input starts the run; where it did, its ticks and its end follow.
@@ -85,11 +58,10 @@ fn main(rt: HostRuntime) -> io::Result<()> {
     let mut input = rt.stdin();
     let mut out = rt.stdout();
     let mut buffer = [0u8; show_run::INPUT_ROOM];
-    let have = show::read_full(&mut input, &mut buffer)?;
-    let r = show_run::begin(&mut out, &buffer[..have])?;
-    if r.going {
-        let ended = all_ticks(&mut input, &mut out, r, &mut buffer, have)?;
-        show_run::finish(&mut out, ended)?;
+    let held = show::read_full(&mut input, &mut buffer)?;
+    if let Some(mut run) = show_run::begin(&mut out, &buffer[..held])? {
+        all_ticks(&mut input, &mut out, &mut run, &mut buffer, held)?;
+        run.finish(&mut out)?;
     }
     out.flush()
 }

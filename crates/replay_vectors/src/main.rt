@@ -5,11 +5,10 @@ use std::io::{self, Write};
 
 // One input, whole.
 fn replay<W: Write>(out: &mut W, input: &[u8]) -> io::Result<()> {
-    let r = show_run::begin(out, input)?;
-    let at = r.used;
-    if r.going {
-        let ended = show_run::ticks(out, r, &input[at..], true)?;
-        show_run::finish(out, ended)?;
+    if let Some(mut run) = show_run::begin(out, input)? {
+        let first = run.place;
+        run.ticks(out, &input[first..], true)?;
+        run.finish(out)?;
     }
     Ok(())
 }
