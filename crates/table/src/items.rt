@@ -1,5 +1,5 @@
-// The items of a table in bytes, read from left to right: a number, a phase, a task, and the loops over phases and tasks, which put what they read into a
-// table. Each goes on from where the one before it stopped, or answers why and where the table is turned away.
+// The items of a table in bytes, read from left to right: a number, a phase, a task, and the loops over phases and tasks, which put what they
+// read into a table. Each goes on from where the one before it stopped, or answers why and where the table is turned away.
 ghost use Rattle.std.specs.Prelude.{◌≡◌, ◌-◌, ◌≤◌, ◌<◌, IfOk};
 ghost use Rattle.groups.specs.Number.{number_at};
 ghost use Rattle.table.specs.Parse.{each, number_in, phase, task};
