@@ -9,6 +9,7 @@ use std::io::{self, Read, Write};
 use table::TurnedAway;
 
 // A number behind a space.
+// Stays a function: a number has its Display, and this is what stands before it.
 pub fn spaced_number<W: Write>(out: &mut W, n: u64) -> io::Result<()>
     ensures { OnOk result (Appends (W.contents out.old) (W.contents out.new) (32 ∷ decimal n)) }
 {
@@ -23,14 +24,13 @@ pub fn task_number(i: usize) -> u64
 }
 
 // The words, and the number of the reason and the place: the line of what was turned away.
+// Stays a function: what was turned away has its Display, and this is the line around it.
 pub fn turned_away<W: Write>(out: &mut W, words: &[u8], away: TurnedAway) -> io::Result<()>
     ensures { OnOk result (Appends (W.contents out.old) (W.contents out.new)
         (words.now ++ (32 ∷ decimal (reason_number away.reason)) ++ (32 ∷ decimal away.place) ++ (10 ∷ []))) }
 {
-    let reason = u8::from(away.reason);
-    let place = away.place;
     out.write_all(words)?;
-    writeln!(out, " {reason} {place}")
+    writeln!(out, " {away}")
 }
 
 // Reads until the buffer is full or the input ends: how many bytes it put at the front of the buffer. They are the next of the input, and fewer than
@@ -43,6 +43,7 @@ pub fn read_full<R: Read>(input: &mut R, buffer: &mut [u8]) -> io::Result<usize>
     ensures end { IfOk result (λ n. n < length buffer.new → IsAtEnd (R.remaining input.new)) }
 {
     let mut done = 0;
+    // Stays a while: it counts no place, but the bytes that each read gave.
     while done < buffer.len() {
         let n = input.read(&mut buffer[done..])?;
         if n == 0 {
