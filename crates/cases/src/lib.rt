@@ -9,6 +9,7 @@ use std::io::{self, Read, Write};
 
 // What stands next on an input: a whole case of so many bytes, its end, or a case that is cut, where the input ended within it or the buffer has no
 // room for one.
+// Stays an enum of its own: what stands next is a case, the end or a cut one, and neither of the last two is an error of reading.
 #[derive(Clone, Copy)]
 enum Case {
     Whole(usize),
@@ -46,7 +47,7 @@ fn next<R: Read>(input: &mut R, buffer: &mut [u8]) -> io::Result<Case>
 
 // Hands each case to `run`, in order; a buffer of 65,536 bytes has room for any. Behind the last a line tells where the next is cut, so that what is
 // printed is not taken for the output of a shorter list. A proved loop has to end, and nothing says that the input does: it counts its turns. Behind
-// an error the buffer has the length that it had.
+// an error the buffer has the length that it had. (What it requires of `run`, any function or closure that is safe for all bytes gives.)
 pub fn each<R: Read, W: Write, F: FnMut(&mut W, &[u8]) -> io::Result<()>>(
     input: &mut R,
     out: &mut W,

@@ -17,7 +17,7 @@ pub trait Sink {
 
     ghost laws: { SinkLaws takes passed };
 
-    // The next number.
+    // The next number. (What it requires is what `put` requires: whoever passes numbers has made sure of it once for all of them.)
     fn number(&mut self, value: u64)
         requires small { value < 2 ^ 56 }
         requires room { takes self.old (value ∷ []) }
@@ -71,7 +71,8 @@ impl<'a> Sink for Filling<'a> {
     }
 }
 
-// Passes numbers to a sink, one behind the other.
+// Passes numbers to a sink, one behind the other. (A layer's own call, as `put` is: whoever passes numbers has made sure of their size and of the
+// room.)
 pub fn pass<S: Sink>(sink: &mut S, values: &[u64])
     requires small { All (λ value. value < 2 ^ 56) values.now }
     requires room { S.takes sink.old values.now }

@@ -8,6 +8,7 @@ use records::Dispatcher;
 use std::io::{self, Write};
 
 // A line: the length t and the demand there, or the word that it does not fit.
+// Stays a function: a line of two values, where a Display would want a struct made of them for it alone.
 fn print_demand<W: Write>(out: &mut W, t: u64, demand: Option<u64>) -> io::Result<()> {
     match demand {
         Some(sum) => writeln!(out, "{t} {sum}"),
@@ -37,6 +38,7 @@ fn table_a() -> [TaskLoad; 32] {
 }
 
 // The demands of table A, then those at the edge of 64 bits.
+// Stays a function: it makes what it prints, line by line.
 fn print_demands<W: Write>(out: &mut W) -> io::Result<()> {
     let mut tasks = table_a();
     for t in [7, 8, 17, 18, 20] {
@@ -89,6 +91,7 @@ fn asked(tick: u64) -> u32 {
 }
 
 // A line: the tick, the masks let in and turned away, the task that ran with its phase and piece, and whether its job finished.
+// Stays a function: it prints other parts of an answer than `replay` does, so no one Display of it would serve.
 fn print_tick<W: Write>(out: &mut W, tick: u64, a: Answer) -> io::Result<()> {
     write!(
         out,
@@ -102,6 +105,7 @@ fn print_tick<W: Write>(out: &mut W, tick: u64, a: Answer) -> io::Result<()> {
 }
 
 // The worked run of table A, tick by tick.
+// Stays a function: it makes what it prints, line by line.
 fn print_run<W: Write>(out: &mut W) -> io::Result<()> {
     let mut dispatcher = ready_a();
     for tick in 0u64..18 {

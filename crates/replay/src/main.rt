@@ -28,6 +28,7 @@ fn refilled<R: Read>(input: &mut R, buffer: &mut [u8], left: Range<usize>) -> io
 }
 
 // All ticks of the input, of which the buffer holds the front. A proved loop has to end, and nothing says that the input does: it counts its turns.
+// Stays with a length: how much of the buffer is held changes from turn to turn, and the whole of it is filled again.
 fn all_ticks<R: Read, W: Write>(
     input: &mut R,
     out: &mut W,

@@ -39,6 +39,7 @@ pub struct Run {
 }
 
 // The number at a place of the bytes, at most `most`, or why and where they are turned away.
+// Stays with a place: a place that is printed is one of the whole input.
 fn number(bytes: &[u8], at: usize, most: u64) -> Result<Number, TurnedAway>
     ensures within { IfOk result (λ n. (at < n.next) × (n.next ≤ length bytes.now)) }
     ensures range { IfOk result (λ n. n.value ≤ most) }
@@ -77,6 +78,7 @@ fn table_of(input: &[u8]) -> Result<(&[u8], usize), TurnedAway>
 }
 
 // Starts the dispatcher on the table, or prints what the judge says of it. The ticks stand behind the table.
+// Stays with a place: that of the first tick in the input, and none of the table.
 fn started<W: Write>(out: &mut W, table: &[u8], place: usize) -> io::Result<Option<Run>>
     ensures { IfOk result (λ r. IfSome r (λ run. (run.place ≡ place) × StartsOn table.now run)) }
 {
@@ -110,6 +112,7 @@ pub fn begin<W: Write>(out: &mut W, input: &[u8]) -> io::Result<Option<Run>>
 }
 
 // A tick's line.
+// Stays a function: a line of two values, where a Display would want a struct made of them for it alone.
 fn print_tick<W: Write>(out: &mut W, tick: u64, answer: &Answer) -> io::Result<()> {
     write!(out, "{tick} {} {}", answer.admitted, answer.away)?;
     if answer.task == 0 {
@@ -126,6 +129,7 @@ fn print_tick<W: Write>(out: &mut W, tick: u64, answer: &Answer) -> io::Result<(
 }
 
 // A task's line at the end.
+// Stays a function: a line of three values, where a Display would want a struct made of them for it alone.
 fn print_task<W: Write>(out: &mut W, i: usize, jobs: &Jobs, deadline: u32) -> io::Result<()> {
     writeln!(
         out,
@@ -174,6 +178,7 @@ impl Run {
     {
         let first = self.place;
         let mut at = 0;
+        // Stays a while: it counts no place, but goes from number to number.
         while at < bytes.len() && (whole || NUMBER_MOST <= bytes.len() - at) {
             match number(bytes, at, REQUEST_MOST) {
                 Ok(request) => {

@@ -19,6 +19,7 @@ impl<'a> Iterator for Numbers<'a> {
 }
 
 // So many numbers, each behind a space, and the end of the line.
+// Stays a function: it takes so many numbers from an iterator, and prints each as it comes.
 fn line_of_numbers<W: Write>(out: &mut W, numbers: &mut Numbers, count: usize) -> io::Result<()> {
     for number in numbers.take(count) {
         show::spaced_number(out, number)?;

@@ -6,6 +6,7 @@
 use std::io::{self, Write};
 
 // Bytes as numbers, each behind a space, and the end of the line.
+// Stays a function: bytes have their Display, and this is the line of them.
 fn line_of_bytes<W: Write>(out: &mut W, bytes: &[u8]) -> io::Result<()> {
     for byte in bytes {
         show::spaced_number(out, u64::from(*byte))?;
