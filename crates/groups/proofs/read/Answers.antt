@@ -1,11 +1,8 @@
 use native.Mathlib.Omega.{arith}
 use Prim.Native.Nat.{◌+◌, ◌-◌}
-use Rattle.groups.proofs.Reading.{nothing_yet, at_eight, at_the_end, at_zero, at_value, at_more, fits}
+use Rattle.groups.proofs.Reading.{at_eight, at_the_end, at_zero, at_value, at_more, fits}
 use Rattle.groups.proofs.read.Goals.{else-k-gt0-via-then-k-gt0+else-b-eq0, else-k-gt0-via-else-k-gt0}
 use Rattle.groups.proofs.read.Goals as goal
-
-pub loop-k-init : goal.loop-k-init
-loop-k-init c = nothing_yet _ _
 
 pub returns-then-bytes-p : goal.returns-then-bytes-p
 returns-then-bytes-p c = at_the_end c.loop-k.invariant (omega arith) c.if-bytes-p.true

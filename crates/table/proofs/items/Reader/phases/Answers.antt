@@ -4,9 +4,6 @@ use Rattle.table.proofs.ItemLaws.{stops}
 use Rattle.table.proofs.Steps.{again, no_more, finish}
 use Rattle.table.proofs.items.Reader.phases.Goals as goal
 
-pub loop-k-init : goal.loop-k-init
-loop-k-init c = λ a r x. x
-
 pub returns-in_err-phase : goal.returns-in_err-phase
 returns-in_err-phase c = stops _ _ (c.loop-k.invariant _ _ (no_more phase (omega arith) c.in_err-phase.ensures)) c.from_residual.ensures.1
 
