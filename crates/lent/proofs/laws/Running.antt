@@ -56,10 +56,6 @@ pub term_some : (t : ℕ) (s : TaskLoad) → s.deadline ≤ t → term_of t s �
 unfolding term_of
 term_some t s h = rw (jobs_from s.spacing s.deadline t h)
 
--- a task's term as the code forms it: the budget for the further jobs, and once more for the first
-pub term_as : (t : ℕ) (s : TaskLoad) (more : ℕ) → s.deadline ≤ t → more ≡ (t - s.deadline) / s.spacing → term_of t s ≡ more * s.budget + s.budget
-term_as t s more h e = term_some t s h ∙ rw (← e) (omega arith)
-
 -- adding to an answer that fits, and to one that does not
 pub plus_fits : (sum k : ℕ) → plus (Some sum) k ≡ told (sum + k)
 unfolding plus
