@@ -1,4 +1,4 @@
-// Numbers of the record.
+// A choice that compiles without a branch, and the index of what is numbered from 1.
 ghost use Rattle.std.specs.Prelude.{◌≡◌, cond, ◌-◌, ◌<◌};
 
 // The first where the test holds, and otherwise the second.

@@ -9,7 +9,8 @@ use std::io::{self, Read, Write};
 
 // What stands next on an input: a whole case of so many bytes, its end, or a case that is cut, where the input ended within it or the buffer has no
 // room for one.
-// Stays an enum of its own: what stands next is a case, the end or a cut one, and neither of the last two is an error of reading.
+// Stays an enum of its own: what stands next is a case, the end or a cut one, and neither of the last two is an error of reading. (Of a case it has the
+// length: its bytes are in the buffer, which `each` lends out and takes back.)
 #[derive(Clone, Copy)]
 enum Case {
     Whole(usize),

@@ -1,5 +1,5 @@
 // The four steps of a tick, each on the record by value. They are the crate's own, until they become calls of their own: each asks for a record in
-// range, which the tick tests once.
+// range, which the tick tests once. (Stays a `requires` of each: the record is C's memory, so its type can promise no range.)
 ghost use Rattle.std.specs.Prelude.{◌≡◌, true};
 ghost use Rattle.records.specs.Ranges.{in_range};
 ghost use Rattle.dispatch.specs.Steps.{Admits, Elapses, Picks, WorksOn};
@@ -85,6 +85,7 @@ fn told(due: Due, ended: bool) -> Ran
 }
 
 // Step 3. The piece goes on, or it ends: the next piece is due, or the first of the next phase, or the job is finished.
+// Stays a flag: document 01's tick takes one, and C hands it in.
 pub fn work(mut held: Dispatcher, flag: bool) -> Worked
     requires { in_range held ≡ true }
     ensures { WorksOn held flag result.next result.ran }

@@ -48,6 +48,7 @@ impl Sink for Measuring {
 }
 
 // The numbers' bytes are written into the buffer, from place `next` on.
+// Stays with a place: what it leaves is said of the whole buffer (`Fills`).
 #[derive(Drop)]
 pub struct Filling<'a> {
     pub buffer: &'a mut [u8],

@@ -45,7 +45,8 @@ pub fn demand_at(tasks: &[TaskLoad], t: u64) -> Option<u64>
     Some(sum)
 }
 
-// The same of an array by value: whoever calls it makes no reference to a struct.
+// The same of an array by value, for whoever holds no slice.
+// Stays beside `demand_at`: a public call with its own promise and edits, which docs/READING names.
 pub fn demand_of(tasks: [TaskLoad; 32], t: u64) -> Option<u64>
     ensures { Sums tasks t result }
 {
@@ -62,7 +63,8 @@ pub fn tick(dispatcher: &mut Dispatcher, mask: u32, flag: bool) -> Answer
     moved.answer
 }
 
-// The same of a record by value: whoever calls it makes no reference to a struct.
+// The same of a record by value, for whoever lends none.
+// Stays beside `tick`: a public call with its own promise and edits, which docs/READING names.
 // Stays a flag: document 01's tick takes one, and C hands it in.
 pub fn ticked(dispatcher: Dispatcher, mask: u32, flag: bool) -> Ticked
     ensures { Ticks dispatcher mask flag result.next result.answer }

@@ -99,9 +99,9 @@ fn print_tick<W: Write>(out: &mut W, tick: u64, a: Answer) -> io::Result<()> {
         a.admitted, a.away, a.task, a.phase, a.piece
     )?;
     if a.finished {
-        out.write_all(b" finished")?;
+        write!(out, " finished")?;
     }
-    out.write_all(b"\n")
+    writeln!(out)
 }
 
 // The worked run of table A, tick by tick.

@@ -10,6 +10,7 @@ use crate::task::{longest_of, need_at};
 use table::Table;
 
 // An array whose places are filled one by one with what f gives for them.
+// Stays a loop of its own, where std has `array::from_fn`: document 01 has the counts start as [0; 256] and be filled.
 fn filled<const N: usize, F: Fn(usize) -> u32>(f: F) -> [u32; N]
     requires { Below N (F.pre f) }
     ensures long { length result ≡ N }

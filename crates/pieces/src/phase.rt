@@ -1,4 +1,5 @@
-// One phase, by its numbers: work, switching cost, count, margin. The contracts are in the words of model/specs/Phase.
+// One phase, by its numbers: work, switching cost, count, margin. They stay numbers, and no struct: table and
+// record hold them in arrays of numbers, so that a struct would be made for each call and taken apart in it. The contracts are in the words of model/specs/Phase.
 ghost use Rattle.std.specs.Prelude.{◌≡◌, true, ◌+◌, ◌*◌, ◌≤◌, ◌<◌};
 ghost use Rattle.model.specs.Ranges.{cost_most, horizon_most, work_most};
 ghost use Rattle.model.specs.Phase.{has_room, longest_piece, needed, piece_length};

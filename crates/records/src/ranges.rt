@@ -86,6 +86,7 @@ impl Dispatcher {
     }
 
     // What stands at phase j of task i.
+    // Stays a number: the definition reads 0 beyond the eighth phase (`phase_at`).
     fn count_at_phase(&self, i: usize, j: usize) -> u32
         requires { i < 32 }
         ensures { result ≡ phase_at self.now.counts i j }

@@ -9,6 +9,7 @@ use arrays::numbers::{choose, from_one};
 use arrays::places::at;
 
 // The piece of a task (from 1; 0 for none) that runs or is next due: its phase and number, and how many of each there are.
+// Stays with 0 for none, as its definition (`due_of`) and the record have it.
 #[derive(Clone, Copy)]
 pub struct Due {
     pub task: u32,

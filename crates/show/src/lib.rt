@@ -35,7 +35,7 @@ pub fn turned_away<W: Write>(out: &mut W, words: &[u8], away: TurnedAway) -> io:
 
 // Reads until the buffer is full or the input ends: how many bytes it put at the front of the buffer. They are the next of the input, and fewer than
 // the buffer has room for only at its end. The first read that fails ends it with its error: the buffer then has the length that it had, and what was
-// read before is lost.
+// read before is lost. (std's read_exact does not say how many bytes it read, and read_to_end wants a heap.)
 pub fn read_full<R: Read>(input: &mut R, buffer: &mut [u8]) -> io::Result<usize>
     ensures prefix_len { IfOk result (λ n. n ≤ length buffer.new) }
     ensures room { length buffer.new ≡ length buffer.old }

@@ -39,7 +39,8 @@ pub struct Run {
 }
 
 // The number at a place of the bytes, at most `most`, or why and where they are turned away.
-// Stays with a place: a place that is printed is one of the whole input.
+// Stays with a place, as `groups::read` has it, to which it passes both; and beside table's `Reader::due`, whose promise is in the parser's words,
+// where here only bounds are leant on.
 fn number(bytes: &[u8], at: usize, most: u64) -> Result<Number, TurnedAway>
     ensures within { IfOk result (λ n. (at < n.next) × (n.next ≤ length bytes.now)) }
     ensures range { IfOk result (λ n. n.value ≤ most) }
@@ -167,6 +168,7 @@ impl Run {
 
     // The ticks that the bytes ask for, and how many of the bytes they used; none where the input is turned away at its next number. Where more input
     // follows (`whole` is false) a number that may go on in it is left.
+    // Stays a flag: whether more input follows is a fact of the input, and no switch between steps.
     pub fn ticks<W: Write>(
         &mut self,
         out: &mut W,

@@ -11,6 +11,7 @@ use table::{Table, TurnedAway};
 use walk::judge::Judged;
 
 // Why a table is refused: the witness, the demand there, the points examined, and the blocked task and phase.
+// Stays with 0 and 0 for the demand, and beside walk's `Refused`: document 01's answer and C have them so.
 #[derive(Clone, Copy, Debug, PartialEq, Eq)]
 pub struct Refusal {
     pub witness: u64,

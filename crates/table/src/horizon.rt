@@ -43,6 +43,7 @@ pub fn horizon(table: &Table) -> Option<u64>
 }
 
 // The sum of h over each of a table's spacings. (A layer's own call: h is a horizon within its limit.)
+// (As `map(..).sum()` it was tried, and the proof did not close.)
 pub fn jobs_within(table: &Table, h: u64) -> u64
     requires { Spacings table.now.spacing table.now.tasks × (h ≤ horizon_most) }
     ensures { result ≡ sum_to table.now.tasks (λ i. h / get_or table.now.spacing i 0) }

@@ -9,6 +9,7 @@ use crate::{Reason, Table, TurnedAway};
 use groups::{Number, NumberError};
 
 // The bytes of a table, and the place that reading has come to.
+// Stays with a place: a reason's place is one of the whole bytes.
 #[derive(Drop)]
 struct Reader<'a> {
     bytes: &'a [u8],
@@ -21,6 +22,7 @@ impl Reader<'_> {
     fn found(&self) -> Result<Number, TurnedAway>
         ensures { result ≡ found_at self.now.bytes.now self.now.at (number_at self.now.bytes.now self.now.at) }
     {
+        // Stays a match: a From has no place to give.
         match groups::read(self.bytes, self.at) {
             Ok(number) => Ok(number),
             Err(NumberError::Ends) => Err(TurnedAway {

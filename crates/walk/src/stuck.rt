@@ -10,6 +10,7 @@ use pieces::task::room_at;
 use table::Table;
 
 // The first phase of task i that has no room in the margin.
+// (As `(0..many).find(..)` it was tried, and the proof did not close.)
 fn lacking(table: &Table, i: usize, margin: u64) -> Option<usize>
     requires { (i < tasks_most) × (get_or table.now.phases i 0 ≤ phases_most) }
     ensures { FirstWhere (get_or table.now.phases i 0) (λ j. (phases_of (tasks_of table.now)).room i j margin ≡ false) result }
@@ -35,6 +36,7 @@ fn stuck_phase(table: &Table, i: usize, t: u64, margin: u64) -> Option<usize>
 
 // Why the walk stops: the blocked task and phase, numbered from 1, or 0 and 0 where the demand is above the point. (Two numbers and no enum: they are
 // those that `answer::refused` writes.)
+// Stays two numbers with 0 and 0: document 01's answer and C have them so.
 #[derive(Clone, Copy)]
 pub struct Blocked {
     pub task: usize,
