@@ -23,9 +23,19 @@ pub fn task_number(i: usize) -> u64
     (i as u64).wrapping_add(1)
 }
 
-// The words, and the number of the reason and the place: the line of what was turned away.
+// The words, a reason and a place: the line of what was turned away.
+// Stays beside `away`: a public call that docs/PROMISES names, and it takes any number for a reason.
+pub fn turned_away<W: Write>(out: &mut W, words: &[u8], reason: u8, place: u64) -> io::Result<()>
+    ensures { OnOk result (Appends (W.contents out.old) (W.contents out.new)
+        (words.now ++ (32 ∷ decimal reason) ++ (32 ∷ decimal place) ++ (10 ∷ []))) }
+{
+    out.write_all(words)?;
+    writeln!(out, " {reason} {place}")
+}
+
+// The same of what the reader turned away: the words, the number of the reason, and the place.
 // Stays a function: what was turned away has its Display, and this is the line around it.
-pub fn turned_away<W: Write>(out: &mut W, words: &[u8], away: TurnedAway) -> io::Result<()>
+pub fn away<W: Write>(out: &mut W, words: &[u8], away: TurnedAway) -> io::Result<()>
     ensures { OnOk result (Appends (W.contents out.old) (W.contents out.new)
         (words.now ++ (32 ∷ decimal (reason_number away.reason)) ++ (32 ∷ decimal away.place) ++ (10 ∷ []))) }
 {

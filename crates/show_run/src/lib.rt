@@ -11,7 +11,6 @@ use dispatch::Answer;
 use groups::{Number, NumberError};
 use jobs::{Jobs, Tally};
 use records::Dispatcher;
-use show::turned_away;
 use start::How;
 use std::io::{self, Write};
 use table::{Reason, TurnedAway};
@@ -106,7 +105,7 @@ pub fn begin<W: Write>(out: &mut W, input: &[u8]) -> io::Result<Option<Run>>
     match table_of(input) {
         Ok((table, place)) => started(out, table, place),
         Err(away) => {
-            turned_away(out, b"input turned away", away)?;
+            show::away(out, b"input turned away", away)?;
             Ok(None)
         }
     }
@@ -190,7 +189,7 @@ impl Run {
                 }
                 Err(TurnedAway { reason, place }) => {
                     let place = first.wrapping_add(place);
-                    turned_away(out, b"input turned away", TurnedAway { reason, place })?;
+                    show::away(out, b"input turned away", TurnedAway { reason, place })?;
                     return Ok(None);
                 }
             }

@@ -62,6 +62,6 @@ pub fn verdict<W: Write>(out: &mut W, table: &[u8]) -> io::Result<()> {
                 _ => refused(out, numbers),
             }
         }
-        Err(away) => show::turned_away(out, b"turned away", away),
+        Err(away) => show::away(out, b"turned away", away),
     }
 }

@@ -20,7 +20,7 @@ fn run<W: Write>(out: &mut W, letter: &[u8], table: &[u8]) -> io::Result<()> {
     let mut answer = [0u8; answer::ANSWER_ROOM];
     match edf::judge(table, &mut answer) {
         Ok(length) => line_of_bytes(out, &answer[..length]),
-        Err(away) => show::turned_away(out, b" turned away", away),
+        Err(away) => show::away(out, b" turned away", away),
     }
 }
 
