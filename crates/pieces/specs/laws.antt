@@ -4,3 +4,4 @@ pub mod Numbers
 pub mod Task
 pub mod Counts
 pub mod Loops
+pub mod Bare

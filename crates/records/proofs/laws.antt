@@ -10,3 +10,4 @@ pub mod Ready
 pub mod Empty
 pub mod Tested
 pub mod Taken
+pub mod Places

@@ -46,7 +46,7 @@ all_alike n p q e =
     (Decides-like _ (λ t i l. e i l ∙ t i l) (λ t i l. sym (e i l) ∙ t i l) (every n q (λ i. q i ≡ true) (λ i. itself (q i))))
 
 -- what matters only where the last test passes
-under_last : (b : Bool) {x y : Bool} → (b ≡ true → x ≡ y) → (x && b) ≡ (y && b)
+pub under_last : (b : Bool) {x y : Bool} → (b ≡ true → x ≡ y) → (x && b) ≡ (y && b)
 under_last true e = ap (λ z. z && true) (e refl)
 under_last false {x} {y} e = none x ∙ sym (none y)
   where
@@ -61,17 +61,17 @@ grouped false w q c = refl
 
 module _ (d : Dispatcher) where
   -- one number of every phase, with a most of its own at each
-  all_in_place : (least : ℕ) (most : ℕ → ℕ) (each : ℕ → ℕ → ℕ) (numbers : List ℕ) → ((p : ℕ) → most p ≡ each (p / 8) (p % 8))
+  pub all_in_place : (least : ℕ) (most : ℕ → ℕ) (each : ℕ → ℕ → ℕ) (numbers : List ℕ) → ((p : ℕ) → most p ≡ each (p / 8) (p % 8))
       → all_to 256 (in_place_at d least most numbers) ≡ all_phases (λ i j. number_test (λ i. get_or d.phases i 0) least (each i j) (phase_at numbers) i j)
   all_in_place least most each numbers e =
       all_alike 256 (in_place_at d least most numbers) (λ p. number_test (λ i. get_or d.phases i 0) least (each (p / 8) (p % 8)) (phase_at numbers) (p / 8) (p % 8))
       (λ p l. ap₂ (λ z v. in_place (used_at d p) least z v) (e p) (sym (phase_place numbers p)))
 
   -- where all counts are, all works are at least 1
-  works_some : all_to 256 (count_at d) ≡ true → all_to 256 (work_at d) ≡ all_to 256 (in_place_at d 1 (λ p. work_most) d.work)
-  works_some h =
-      all_alike 256 (work_at d) (in_place_at d 1 (λ p. work_most) d.work)
-      (λ p l. work_some (used_at d p) work_most (get_or d.work p 0) (get_or d.counts p 0) (each p l))
+  pub works_some : (most : ℕ) → all_to 256 (count_at d) ≡ true → all_to 256 (in_place_at d 0 (λ p. most) d.work) ≡ all_to 256 (in_place_at d 1 (λ p. most) d.work)
+  works_some most h =
+      all_alike 256 (in_place_at d 0 (λ p. most) d.work) (in_place_at d 1 (λ p. most) d.work)
+      (λ p l. work_some (used_at d p) most (get_or d.work p 0) (get_or d.counts p 0) (each p l))
     where
       each : Below 256 (λ p. count_at d p ≡ true)
       each = (every 256 (count_at d) (λ p. count_at d p ≡ true) (λ p. itself (count_at d p))).0 h
@@ -86,5 +86,5 @@ module _ (d : Dispatcher) where
       let C = all_in_place 1 (λ p. get_or d.work p 0) (phase_at d.work) d.counts (λ p. sym (phase_place d.work p)) in
       ap (λ b. A && b) (all_both 256 (λ p. work_at d p && cost_at d p) (count_at d) ∙ ap (λ b. b && all_to 256 (count_at d)) (all_both 256 (work_at d) (cost_at d))) ∙
       grouped A (all_to 256 (work_at d)) (all_to 256 (cost_at d)) (all_to 256 (count_at d)) ∙
-      under_last (all_to 256 (count_at d)) (λ h. ap (λ w. (A && w) && all_to 256 (cost_at d)) (works_some h)) ∙
+      under_last (all_to 256 (count_at d)) (λ h. ap (λ w. (A && w) && all_to 256 (cost_at d)) (works_some work_most h)) ∙
       (λ k. ((A && W k) && Q k) && C k)

@@ -42,11 +42,23 @@ module _ (n : ℕ) (P : ℕ → Type 0) where
   pub none_found : FirstWhere n P None → (k : ℕ) × (k < n) × P k → ⊥
   none_found none (k, l, p) = none k l p
 
+-- where it has nowhere the property, none is found; what is found is below n
+module _ {n : ℕ} {P : ℕ → Type 0} where
+  pub first_out : Below n (λ k. P k → ⊥) → FirstWhere n P None
+  first_out h = h
+
+  pub found_below : {r : ℕ} → FirstWhere n P (Some r) → r < n
+  found_below f = f.within
+
 -- ---- the point
 
 -- the first phase that is stuck, of the first task that has one
-stuck_found : {a : Arrays} {t M i j : ℕ} → Searching a.tasks (StuckTask a t M) i → i < a.tasks → IsFirst (get_or a.phases i 0) (Stuck a t M i) j → FirstStuck a t M i j
+pub stuck_found : {a : Arrays} {t M i j : ℕ} → Searching a.tasks (StuckTask a t M) i → i < a.tasks → IsFirst (get_or a.phases i 0) (Stuck a t M i) j → FirstStuck a t M i j
 stuck_found {j = j} s l f = record { task = searching_found s l (j, f.within, f.here); phase = f }
+
+-- no task has one
+pub stuck_nowhere : (a : Arrays) (t M i : ℕ) → Searching a.tasks (StuckTask a t M) i → a.tasks ≤ i → FirstWhere a.tasks (StuckTask a t M) None
+stuck_nowhere a t M i s le = searching_end s le
 
 module _ {a : Arrays} {t demand : ℕ} where
   pub stops_over : t < demand → PointJudged a t demand (Some (record { task = 0; phase = 0 }))
