@@ -45,7 +45,7 @@ impl Tally {
     };
 
     // One job more of each task in the mask, released in this tick.
-    pub fn admit(&mut self, tick: u64, mask: u32) {
+    pub(crate) fn admit(&mut self, tick: u64, mask: u32) {
         for (i, jobs) in self.tasks.iter_mut().enumerate() {
             if (mask >> i) % 2 == 1 {
                 jobs.admit(tick);
@@ -54,7 +54,7 @@ impl Tally {
     }
 
     // A finished job of the task at place i.
-    pub fn complete(&mut self, tick: u64, i: usize) {
+    pub(crate) fn complete(&mut self, tick: u64, i: usize) {
         if let Some(jobs) = self.tasks.get_mut(i) {
             jobs.complete(tick);
         }
