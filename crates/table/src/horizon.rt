@@ -35,7 +35,8 @@ pub fn horizon(table: &Table) -> Option<u64>
     requires { Spacings table.now.spacing table.now.tasks }
     ensures { result ≡ none_above horizon_most (lcm_to table.now.tasks (λ i. get_or table.now.spacing i 0)) }
 {
-    let mut h: u64 = 1;
+    // With no task yet it is the least there is.
+    let mut h = Table::HORIZON_LEAST;
     for &spacing in &table.spacing[..table.tasks] {
         h = lcm_within(h, u64::from(spacing))?;
     }
