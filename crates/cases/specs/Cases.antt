@@ -1,5 +1,5 @@
 -- DEFINITIONS. What stands on an input of cases: each has its length in two bytes, the lower first, and then its bytes. Assumes nothing.
-use Rattle.std.specs.Prelude.{ℕ, ◌≡◌, ◌+◌, ◌*◌, List, [], ◌∷◌, length, min, nat_le, ⊤, Option, Result, Ok, IfSome, codes, ◌++◌, ◌-◌, ◌^◌, ◌⊎◌}
+use Rattle.std.specs.Prelude.{ℕ, ◌≡◌, ◌+◌, ◌*◌, List, [], ◌∷◌, length, min, nat_le, ◌≤◌, ⊤, Option, Result, Ok, IfSome, codes, ◌++◌, ◌-◌, ◌^◌, ◌⊎◌}
 use Rattle.std.specs.Prelude.{if◌then◌else◌}
 use Rattle.std.specs.Io.KnownBytes.{Appends, Consumes}
 use Rattle.std.specs.Fn.{Mut, CalledWithState}
@@ -46,25 +46,27 @@ pub record Stage (R F W : Type 0) : Type 0 where
   pub out : W
 
 module _ {R F W E : Type 0} (left : R → Option (List ℕ)) (g : Mut F (MutBor W × (Bor (List ℕ) × Unit {0})) (Result (Unit {0}) E × (MutBor W × Unit {0}))) where
-  -- one turn: the input lost a case, and the function was called at the bytes of that case, and did not fail
-  pub record Turn (p : Stage R F W) (bytes : List ℕ) (q : Stage R F W) : Type 0 where
+  -- one turn: the input lost a case that the buffer has room for, and the function was called at the bytes of that case, and did not fail
+  pub record Turn (room : ℕ) (p : Stage R F W) (bytes : List ℕ) (q : Stage R F W) : Type 0 where
     pub taken : Taken (left p.input) (left q.input) bytes
+    pub fits : length bytes ≤ room
     pub lent : Bor (List ℕ)
     pub lends : lent.now ≡ bytes
     pub called : CalledWithState g p.run p.out lent (Ok tt) q.run q.out
 
   -- n turns, over the cases in order
-  pub record Turns (p : Stage R F W) (n : ℕ) (q : Stage R F W) : Type 0 where
+  pub record Turns (room : ℕ) (p : Stage R F W) (n : ℕ) (q : Stage R F W) : Type 0 where
     pub cases : List (List ℕ)
     pub count : length cases ≡ n
-    pub each : FoldsTo Turn p cases q
+    pub each : FoldsTo (Turn room) p cases q
 
-  -- What a run over an input did, from p on: its turns. Behind them the input ends, and nothing more was written; or the next case is cut, and a line
-  -- says so; or as many cases were taken as a run counts.
+  -- What a run over an input did, from p on: its turns, which a number of 64 bits counts. Behind them the input ends, and nothing more was written; or
+  -- the next case is cut, and a line says so; or as many cases were taken as a run counts.
   pub record RunsOver (contents : W → Option (List ℕ)) (room : ℕ) (p : Stage R F W) (out : W) : Type 0 where
     pub count : ℕ
     pub last : Stage R F W
-    pub turns : Turns p count last
+    pub turns : Turns room p count last
+    pub counted : count ≤ 2 ^ 64 - 1
     pub ended : (IfSome (left last.input) (λ xs. next_on room xs ≡ End) × (out ≡ last.out))
         ⊎ (IfSome (left last.input) (λ xs. next_on room xs ≡ Cut) × Appends (contents last.out) (contents out) cut_line)
         ⊎ (count ≡ 2 ^ 64 - 1)

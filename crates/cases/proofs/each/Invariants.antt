@@ -7,6 +7,6 @@ abbrev pub invariant-loop-turn : goal.invariant-loop-turn
 invariant-loop-turn g l = record {
   callable : goal.F-IsAlwaysCallable g l.run;
   room : length l.buffer ≡ length l.fn.buffer;
-  turns : Turns g.R.Read.remaining g.F.FnMut (record { input = l.fn.input; run = l.fn.run; out = l.fn.out }) l.turn
+  turns : Turns g.R.Read.remaining g.F.FnMut (length l.fn.buffer) (record { input = l.fn.input; run = l.fn.run; out = l.fn.out }) l.turn
       (record { input = l.input; run = l.run; out = l.out });
 }
