@@ -45,6 +45,10 @@ pub record Rising (S : Tasks) (x : Choice) (i j top : ℕ) : Type 0 where
 pub rising_none : (S : Tasks) (x : Choice) (i : ℕ) → Rising S x i 0 0
 rising_none S x i = record { is = sym (max_none _); most = omega arith }
 
+-- the phases that are looked at are in pieces
+pub rising_some : {S : Tasks} {x : Choice} {i j : ℕ} → InPieces S x i → j < S.m i → 0 < x i j
+rising_some {j = j} cut l = cut.some j l
+
 pub rising_more : {S : Tasks} {x : Choice} {i j top r t : ℕ} → InPieces S x i → j < S.m i → Rising S x i j top
     → (r ≡ (phases_of S).longest_piece i j (x i j)) × (r ≤ S.c i j + S.q i j) → t ≡ max top r → Rising S x i (j + 1) t
 rising_more {j = j} cut l k e et =
