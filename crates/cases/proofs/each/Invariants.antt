@@ -10,3 +10,6 @@ invariant-loop-turn g l = record {
   turns : Turns g.R.Read.remaining g.F.FnMut (length l.fn.buffer) (record { input = l.fn.input; run = l.fn.run; out = l.fn.out }) l.turn
       (record { input = l.input; run = l.run; out = l.out });
 }
+
+-- The measure that the loop of count_begun_anew.edit wants: its type,
+-- and the turns that are left.
