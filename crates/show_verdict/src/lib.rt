@@ -2,7 +2,6 @@
 #![tactic(auto)]
 
 use std::io::{self, Write};
-use table::{Table, TurnedAway};
 
 // The house numbers at the front of bytes, one behind the other.
 #[derive(Drop)]
@@ -27,14 +26,16 @@ fn line_of_numbers<W: Write>(out: &mut W, numbers: &mut Numbers, count: usize) -
     writeln!(out)
 }
 
-// An accepted answer: its line, and for each task a line with its number, its counts and its longest piece. How many phases a task has stands in the
-// table only.
-fn accepted<W: Write>(out: &mut W, table: &Table, mut numbers: Numbers) -> io::Result<()> {
+// An accepted answer: its line, and for each task a line with its number, its counts and its longest piece. How many tasks there are, and how many
+// phases each has, stands in the table only, which is read again for that alone, and so where it is accepted alone.
+fn accepted<W: Write>(out: &mut W, bytes: &[u8], mut numbers: Numbers) -> io::Result<()> {
     write!(out, "accepted")?;
     line_of_numbers(out, &mut numbers, 2)?;
-    for (i, phases) in table.phases.iter().take(table.tasks).enumerate() {
-        write!(out, "{}", show::task_number(i))?;
-        line_of_numbers(out, &mut numbers, *phases as usize + 1)?;
+    if let Ok(table) = table::parse(bytes) {
+        for (i, phases) in table.phases.iter().take(table.tasks).enumerate() {
+            write!(out, "{}", show::task_number(i))?;
+            line_of_numbers(out, &mut numbers, *phases as usize + 1)?;
+        }
     }
     Ok(())
 }
@@ -45,20 +46,14 @@ fn refused<W: Write>(out: &mut W, mut numbers: Numbers) -> io::Result<()> {
     line_of_numbers(out, &mut numbers, 5)
 }
 
-// Judges the table in the bytes: the answer is written, and the table is handed back.
-fn judged(bytes: &[u8], answer: &mut [u8]) -> Result<Table, TurnedAway> {
-    edf::judge(bytes, answer)?;
-    table::parse(bytes)
-}
-
 // Judges the table and prints `accepted` with a line for each task, `refused` or `turned away`.
 pub fn verdict<W: Write>(out: &mut W, table: &[u8]) -> io::Result<()> {
     let mut answer = [0u8; answer::ANSWER_ROOM];
-    match judged(table, &mut answer) {
-        Ok(table) => {
+    match edf::judge(table, &mut answer) {
+        Ok(_) => {
             let mut numbers = Numbers(&answer);
             match numbers.next() {
-                Some(0) => accepted(out, &table, numbers),
+                Some(0) => accepted(out, table, numbers),
                 _ => refused(out, numbers),
             }
         }
