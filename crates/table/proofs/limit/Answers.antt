@@ -13,8 +13,8 @@ jobs_within-requires c = (c.requires, horizon_small c.args.table.now (sym c.in_o
 
 pub returns-then-jobs_within-gt-JOBS_MOST : goal.returns-then-jobs_within-gt-JOBS_MOST
 returns-then-jobs_within-gt-JOBS_MOST c =
-    ap Err c.whole-then-jobs_within-gt-JOBS_MOST.ensures
-    ∙ limit_crowded _ (sym c.in_ok-horizon.ensures.ok_part ∙ c.horizon.ensures) c.jobs_within.ensures c.if-jobs_within-gt-JOBS_MOST.true
+    let crowded = limit_crowded _ (sym c.in_ok-horizon.ensures.ok_part ∙ c.horizon.ensures) c.jobs_within.ensures c.if-jobs_within-gt-JOBS_MOST.true in
+    rw c.whole-then-jobs_within-gt-JOBS_MOST.ensures crowded
 
 pub returns : goal.returns
 returns c = limit_read _ (sym c.in_ok-horizon.ensures.ok_part ∙ c.horizon.ensures) c.jobs_within.ensures c.if-jobs_within-gt-JOBS_MOST.false
